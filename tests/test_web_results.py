@@ -3,6 +3,7 @@ from __future__ import annotations
 
 import json
 import os
+import signal
 import threading
 import unittest
 from typing import Any
@@ -115,6 +116,33 @@ class Declared(Results):
         self.write("race 1 GBR7 DPI 2\nrace 1 K12\n", "cup", "decisions.txt")
         helpers.until("the other decision", lambda: [one.get("points") for one in jury.state()["decisions"]] == ["5.0", None])
         self.assertEqual([point["kind"] for point in self.shown()["open"]], ["decision-stale", "decisions-unread"])
+
+    def test_taps_unsent(self) -> None:
+        """Taps that a device has said to hold are named before a race is scored, before results are final, and before the
+        office closes; once they have come they aren't."""
+        held: dict[str, object] = {"id": new_id(), "line": "FINISH 1 GBR7", "at": 1, "seen": 12}
+        self.finish.ask("GET", "/office/finish/me", X_Unsent="2")
+        self.finish.tap("FINISH 1 GBR101")
+        status, said = self.scorer.tap("SCORE 1")
+        self.assertEqual((status, said["question"]["kind"], said["question"]["values"]),
+                         (409, "score-unsent", {"race": 1, "devices": ["Ann (2)"]}))
+        self.assertIn("Ann (2)", said["question"]["text"])
+        self.assertIn(["taps-unsent", {"devices": ["Ann (2)"]}], [[one["kind"], one["values"]] for one in self.shown()["open"]])
+        status, said = self.declare("final")
+        self.assertEqual((status, said["question"]["values"]["devices"], "all the same" in said["question"]["text"]),
+                         (409, ["Ann (2)"], True))
+        # A tap that the office answers waits no longer, whether it was taken or not; one that is asked does.
+        for line, status, left in (("FINISH 1 GBR7", 200, "Ann (1)"), ("SCORE 1", 422, "")):
+            tap = held | {"id": new_id(), "line": line}
+            self.assertEqual(self.finish.ask("POST", "/office/finish/line/cup", tap, X_Unsent="2" if left else "1")[0], status)
+            self.assertEqual([one["values"]["devices"] for one in self.shown()["open"] if one["kind"] == "taps-unsent"],
+                             [[left]] if left else [])
+        self.assertEqual(self.scorer.tap("SCORE 1")[1]["question"]["kind"], "score-missing")
+        # Who scores knows her own taps.
+        self.scorer.ask("GET", "/office/scorer/me", X_Unsent="1")
+        self.assertEqual(self.scorer.tap("SCORE 1")[1]["question"]["kind"], "score-missing")
+        self.web.send_signal(signal.SIGINT)
+        helpers.until("who may still write", lambda: "Bea (scorer, 1 tap not sent yet)" in self.said())
 
     def test_asked_first(self) -> None:
         """Nothing is declared before somebody has agreed, to just what is open and to just this table."""
@@ -329,6 +357,26 @@ class Files(Results):
             file.write(self.download("html/cup")[0])
         said, status = helpers.run("verify", "saved.html", "--program", helpers.PROGRAM, cwd=self.here)
         self.assertEqual((status, ": verified." in said), (0, True), said)
+
+    def test_rules_that_wait(self) -> None:
+        """Results go by the rules in force, in every form: those that are saved come with the next opening of the office."""
+        for race in (1, 2):
+            self.sail(race)
+        nets = {row["sail"]: row["net"] for row in self.scorer.state()["standing"]["rows"]}
+        rules = self.scorer.ask("GET", "/office/scorer/rules/cup")[1]
+        saved = {"settings": {**rules["settings"], "exclude": "none", "absent": "a53"}, "tag": rules["tag"]}
+        self.assertEqual(self.scorer.ask("POST", "/office/scorer/save/cup", saved)[1]["waiting"], ["exclude", "absent"])
+        self.assertEqual(self.declared("final")[0], 200)
+        for form in ("page/cup", "text/cup", "csv/cup", "json"):
+            data = self.download(form)[0].decode()
+            self.assertEqual(("have changed since" in data, "RRS A5.3" in data), (False, False), form)
+        found = {row["sail"]: row["net"] for row in json.loads(self.download("json")[0])[0]["boats"]}
+        self.assertEqual(found, nets)
+        said, status = helpers.run("export", "cup", "--text", cwd=self.here)
+        self.assertEqual((status, "RRS A5.2" in said, "other rules than the open office" in said), (0, True, True), said)
+        # The office dies, and is opened again by the web, by the same rules.
+        self.kill_program()
+        self.assertEqual((self.shown()["is_changed"], "have changed since" in self.download("page/cup")[0].decode()), (False, False))
 
     def test_page(self) -> None:
         """The page to print is shown, not saved; it runs the results' own script alone, and is in no frame."""

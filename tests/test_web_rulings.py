@@ -135,6 +135,22 @@ class Rulings(Web):
             self.assertEqual((self.shown(name)["codes"]["GBR7"], "GBR7" in self.shown(name)["redress"]), ("RET", False))
             self.assertIn(row, self.sheet())
 
+    def test_reinstated_after_a_decision(self) -> None:
+        """REINSTATE in place of a decision: what that gave her goes, also in a race that doesn't count yet. Then it is as it
+        has to be, and her place is hers again."""
+        self.sail_races()
+        for name in self.words:
+            self.yes("FINISH", "FINISH 3 GBR1", name)
+            self.yes("FINISH", "FINISH 3 GBR2", name)
+            before = self.shown(name)
+            for race, sail, kind in (("1", "GBR1", "NSC"), ("1", "GBR1", "TLE 5"), ("1", "GBR9", "NSC"), ("1", "GBR2", "TLE 5"),
+                                     ("3", "GBR1", "NSC"), ("3", "GBR9", "NSC")):
+                self.assertNotEqual(self.ruled(name, f"race {race} {sail} {kind}"), ["refused"], kind)
+                self.assertEqual(self.ruled(name, f"race {race} {sail} REINSTATE")[0], f"JURY CLEAR {race} {sail}", (name, race, kind))
+                self.assertEqual([one["kept"] for one in self.devices["JURY"].state(name)["decisions"]], [True], (name, race, kind))
+                self.assertEqual(self.shown(name), before)
+                self.ruled(name, f"race {race} {sail} REINSTATE", True)
+
     def test_cleared(self) -> None:
         """The jury clears a code that a boat was given after she had finished: her time follows, as the committee's line."""
         self.sail_races()

@@ -372,7 +372,8 @@ class Scripts(unittest.TestCase):
                                     scripts()), [])
 
     def test_kept_files(self) -> None:
-        """The finish page's worker keeps all that its page loads, and what a class by corrected time needs besides."""
+        """The finish page's worker keeps all that its page loads, and what a question of the office or a class by corrected
+        time needs besides."""
         with open(os.path.join(STATIC, "worker.js"), encoding="utf-8") as file:
             kept = set(re.findall(r'"([\w-]+\.(?:css|js|webmanifest))"', file.read()))
         needed, waiting = {"finish.js", "finish.css", "base.css", "finish.webmanifest"}, ["finish.js"]
@@ -381,7 +382,7 @@ class Scripts(unittest.TestCase):
                 found = set(re.findall(r'from "\./([\w.-]+)"', file.read())) - needed
             needed |= found
             waiting += found
-        self.assertEqual(kept, needed | {"finish-start.js"})
+        self.assertEqual(kept, needed | {"finish-answers.js", "finish-start.js"})
         with open(os.path.join(STATIC, "finish.html"), encoding="utf-8") as file:
             loaded = set(re.findall(r'/office/static/([\w.-]+)"', file.read()))
         self.assertEqual(loaded, needed)

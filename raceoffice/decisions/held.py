@@ -35,8 +35,8 @@ class Holding:
         elif command == "CLEAR":
             self.code, self.role, self.before, self.redress = "", "", ("", ""), ""
             self.penalties = []
-        self.was_decided |= command == "REDRESS" or what in OF_JURY or \
-            (command == "PENALTY" and role == "JURY")
+        # Of a decision that gave her a DNF alone, and was taken out, the jury's CLEAR is left.
+        self.was_decided |= role == "JURY" or command == "REDRESS" or what in OF_JURY
 
     @property
     def is_any(self) -> bool:

@@ -17,7 +17,7 @@ from raceoffice.series import entry_list, settings
 from raceoffice.series.folder import Folder
 from raceoffice.series.kept_places import kept_now
 from raceoffice.series.last_change import mark_of
-from raceoffice.series.run_program import replayed
+from raceoffice.series.run_program import options_in_force, replayed
 from raceoffice.series.unknown_finishers import marks_by_race
 from raceoffice.session.dialogue import Question, Value
 from raceoffice.session.question_words import question
@@ -43,7 +43,7 @@ def sheet_now(folder: Folder) -> Sheet:
         link = folder.link()
         with contextlib.closing(link):
             return link.sheet()
-    return replayed(folder, folder.settings.options())
+    return replayed(folder, options_in_force(folder))
 
 
 # What is open
@@ -103,6 +103,11 @@ def of_decisions(folder: Folder, sheet: Sheet, decisions: DecisionsNow) -> list[
     return [*(of_decision(folder, verdict) for verdict in found.verdicts if not verdict.is_kept), *wrong]
 
 
+def of_unsent(devices: Sequence[str]) -> Open:
+    """Devices that hold taps which the office hasn't got."""
+    return Open("taps-unsent", {"devices": tuple(devices)}, f"Taps that the office hasn't got wait on {joined(devices)}.")
+
+
 def of_decision(folder: Folder, verdict: Verdict) -> Open:
     ruling = verdict.ruling
     values: dict[str, Value] = {"race": ruling.race, "sail": ruling.sail, "kind": ruling.kind, "how": ruling.how, "points": verdict.points,
@@ -122,9 +127,10 @@ def asked_of(state: str, points: Sequence[Open], mark: str = "") -> Question:
 
     decisions = [" ".join(str(point.values[name]) for name in ("race", "sail", "kind", "points", "held"))
                  for point in points if point.kind == "decision-stale"]
+    devices = all_of("taps-unsent", "devices")
     return question("announce", str, state=state, table=mark, races=all_of("race-unscored", "race"),
                     sails=all_of("boats-unnamed", "sails"), marks=all_of("finishers-unknown", "marks"),
-                    faults=(*all_of("places-unread", "fault"), *all_of("decisions-unread", "fault")), decisions=decisions)
+                    faults=(*all_of("places-unread", "fault"), *all_of("decisions-unread", "fault")), decisions=decisions, **({"devices": devices} if devices else {}))
 
 
 def need_reason(state: str, reason: str) -> str:

@@ -112,18 +112,12 @@ fn code_of(word: u64) -> Option<u32> {
         key("DSQ"),
         key("DNE"),
     ];
-    CODES
-        .iter()
-        .position(|&code| code == word)
-        .map(|at| at as u32 + 1)
+    CODES.iter().position(|&code| code == word).map(|at| at as u32 + 1)
 }
 
 fn penalty_of(word: u64) -> Option<u32> {
     const PENALTIES: [u64; 2] = [key("ZFP"), key("SCP")];
-    PENALTIES
-        .iter()
-        .position(|&kind| kind == word)
-        .map(|at| at as u32)
+    PENALTIES.iter().position(|&kind| kind == word).map(|at| at as u32)
 }
 
 fn role_of(word: u64) -> Option<Role> {
@@ -142,38 +136,26 @@ fn raised(word: &[u8]) -> u64 {
     if word.len() > 8 {
         return 0;
     }
-    word.iter().rev().fold(0, |found, byte| {
-        found << 8 | u64::from(byte.to_ascii_uppercase())
-    })
+    word.iter().rev().fold(0, |found, byte| found << 8 | u64::from(byte.to_ascii_uppercase()))
 }
 
 /// The number of a word of one to `most` digits.
 pub fn number_of(word: &[u8], most: usize) -> Option<u64> {
     let is_one = (1..=most).contains(&word.len()) && word.iter().all(u8::is_ascii_digit);
-    is_one.then(|| {
-        word.iter()
-            .fold(0, |found, digit| found * 10 + u64::from(digit - b'0'))
-    })
+    is_one.then(|| word.iter().fold(0, |found, digit| found * 10 + u64::from(digit - b'0')))
 }
 
 /// The race of a word, counted from 0.
 fn race_of(word: &[u8]) -> Option<u8> {
-    number_of(word, 2)
-        .filter(|race| (1..=40).contains(race))
-        .map(|race| race as u8 - 1)
+    number_of(word, 2).filter(|race| (1..=40).contains(race)).map(|race| race as u8 - 1)
 }
 
 /// The sail of a word.
 pub fn sail_of(word: &[u8]) -> Option<Sail> {
     let is_one = (1..=LETTERS).contains(&word.len())
-        && word
-            .iter()
-            .all(|byte| byte.is_ascii_alphanumeric() || *byte == b'-');
-    is_one.then(|| {
-        word.iter().rev().fold(0, |found, byte| {
-            found << 8 | Sail::from(byte.to_ascii_uppercase())
-        })
-    })
+        && word.iter().all(|byte| byte.is_ascii_alphanumeric() || *byte == b'-');
+    is_one
+        .then(|| word.iter().rev().fold(0, |found, byte| found << 8 | Sail::from(byte.to_ascii_uppercase())))
 }
 
 /// The redress of a word.
@@ -185,16 +167,9 @@ fn redress_of(word: &[u8]) -> Option<u32> {
         RACES_BEFORE => return Some(PRIOR),
         _ => {}
     }
-    let dot = word
-        .iter()
-        .position(|&byte| byte == b'.')
-        .unwrap_or(word.len());
+    let dot = word.iter().position(|&byte| byte == b'.').unwrap_or(word.len());
     let whole = number_of(&word[..dot], 3)?;
-    let tenth = if dot == word.len() {
-        0
-    } else {
-        number_of(&word[dot + 1..], 1)?
-    };
+    let tenth = if dot == word.len() { 0 } else { number_of(&word[dot + 1..], 1)? };
     Some((whole * 10 + tenth) as u32).filter(|tenths| *tenths >= 10)
 }
 
@@ -211,18 +186,20 @@ impl<'a> Words<'a> {
         if text.len() > LONGEST {
             return None;
         }
-        let mut found = Words {
-            list: [b""; 8],
-            count: 0,
-        };
-        for word in text
-            .split(|&byte| byte == b' ')
-            .filter(|word| !word.is_empty())
-        {
-            if let Some(place) = found.list.get_mut(found.count) {
-                *place = word;
+        let mut found = Words { list: [b""; 8], count: 0 };
+        let mut at = 0;
+        while at < text.len() {
+            let start = at;
+            while at < text.len() && text[at] != b' ' {
+                at += 1;
             }
-            found.count += 1;
+            if start < at {
+                if let Some(place) = found.list.get_mut(found.count) {
+                    *place = &text[start..at];
+                }
+                found.count += 1;
+            }
+            at += 1;
         }
         Some(found)
     }
@@ -253,18 +230,8 @@ fn command_of(words: &Words, from: usize) -> Result<Command, u8> {
     if words.count - from != more + 1 {
         return Err(22);
     }
-    let mut found = Command {
-        kind,
-        race: 0,
-        value: 0,
-        sail: 0,
-        other: 0,
-    };
-    let [first, second, third] = [
-        words.list[from + 1],
-        words.list[from + 2],
-        words.list[from + 3],
-    ];
+    let mut found = Command { kind, race: 0, value: 0, sail: 0, other: 0 };
+    let [first, second, third] = [words.list[from + 1], words.list[from + 2], words.list[from + 3]];
     if kind == Kind::Enter {
         found.sail = sail_of(first).ok_or(23)?;
         return Ok(found);
@@ -286,6 +253,9 @@ fn command_of(words: &Words, from: usize) -> Result<Command, u8> {
 
 /// What a line without its LF asks for, or its fault.
 pub fn read_line(text: &[u8]) -> Result<Line, u8> {
+    if text.is_empty() {
+        return Err(21);
+    }
     let words = Words::of(text).ok_or(20)?;
     let first = raised(words.list[0]);
     let more = match first {
@@ -310,21 +280,12 @@ pub fn read_entry(text: &[u8]) -> Result<EntryText, u8> {
     if words.count < 4 {
         return Err(22);
     }
-    let seat = number_of(words.list[0], 2)
-        .filter(|seat| (1..=16).contains(seat))
-        .ok_or(28)? as u8;
-    let number = number_of(words.list[1], 10)
-        .filter(|number| *number > 0)
-        .ok_or(28)?;
+    let seat = number_of(words.list[0], 2).filter(|seat| (1..=16).contains(seat)).ok_or(28)? as u8;
+    let number = number_of(words.list[1], 10).filter(|number| *number > 0).ok_or(28)?;
     let number = u32::try_from(number).map_err(|_| 28)?;
     let role = role_of(raised(words.list[2])).ok_or(27)?;
     let command = command_of(&words, 3)?;
-    Ok(EntryText {
-        seat,
-        number,
-        role,
-        command,
-    })
+    Ok(EntryText { seat, number, role, command })
 }
 
 const EACH: u64 = 0x0101_0101_0101_0101;
@@ -334,6 +295,23 @@ const EACH: u64 = 0x0101_0101_0101_0101;
 fn bytes_before(word: u64, limit: u8) -> usize {
     let below = word.wrapping_sub(EACH * u64::from(limit)) & !word & (EACH << 7);
     below.trailing_zeros() as usize / 8
+}
+
+/// Where the line that begins at `at` ends, if it does before `end`.
+#[inline]
+pub fn line_end(text: &[u8], mut at: usize, end: usize) -> Option<usize> {
+    while let Some(word) = text.get(at..at + 8).and_then(|word| word.try_into().ok()) {
+        let apart = u64::from_le_bytes(word) ^ EACH * u64::from(b'\n');
+        let count = bytes_before(apart, 1);
+        if count < 8 {
+            return Some(at + count).filter(|found| *found < end);
+        }
+        at += 8;
+        if at >= end {
+            return None;
+        }
+    }
+    (at..end.min(text.len())).find(|&at| text[at] == b'\n')
 }
 
 /// The first `count` bytes of a word, at most seven.
@@ -360,10 +338,7 @@ fn quick_sail(line: &[u8; WINDOW], at: usize) -> Option<(Sail, usize)> {
     if count > LETTERS - 8 {
         return None;
     }
-    Some((
-        Sail::from(low) | Sail::from(first_bytes(high, count)) << 64,
-        at + 8 + count,
-    ))
+    Some((Sail::from(low) | Sail::from(first_bytes(high, count)) << 64, at + 8 + count))
 }
 
 /// A race that a space follows, and where the next word begins.
@@ -413,23 +388,15 @@ pub fn quick(text: &[u8], at: usize) -> Option<(Line, usize)> {
     if letters == 8 || line[letters] != b' ' {
         return None;
     }
-    let (kind, last) = match first_bytes(head, letters) {
-        FINISH => (Kind::Finish, Last::Nothing),
-        STRIKE => (Kind::Strike, Last::Nothing),
-        CLEAR => (Kind::Clear, Last::Nothing),
-        TIE => (Kind::Tie, Last::Sail),
-        BEFORE => (Kind::Before, Last::Sail),
-        TIME => (Kind::Time, Last::Value),
-        MARK => (Kind::Mark, Last::Value),
-        PENALTY => (Kind::Penalty, Last::Value),
-        REDRESS => (Kind::Redress, Last::Value),
-        ROLE => return quick_role(line, at),
-        RANK => {
-            let (sail, end) = quick_sail(line, letters + 1)?;
-            return (line[end] == b'\n').then(|| (Line::Rank(sail), at + end + 1));
-        }
-        _ => return None,
-    };
+    let word = first_bytes(head, letters);
+    if word == ROLE {
+        return quick_role(line, at);
+    }
+    if word == RANK {
+        let (sail, end) = quick_sail(line, letters + 1)?;
+        return (line[end] == b'\n').then(|| (Line::Rank(sail), at + end + 1));
+    }
+    let (kind, last) = quick_kind(word)?;
     let (race, next) = quick_race(line, letters + 1)?;
     let (sail, mut end) = quick_sail(line, next)?;
     let (mut value, mut other) = (0, 0);
@@ -443,17 +410,23 @@ pub fn quick(text: &[u8], at: usize) -> Option<(Line, usize)> {
             (value, end) = quick_value(kind, line, end + 1)?;
         }
     }
-    (line[end] == b'\n').then(|| {
-        (
-            Line::Do(Command {
-                kind,
-                race,
-                value,
-                sail,
-                other,
-            }),
-            at + end + 1,
-        )
+    (line[end] == b'\n').then(|| (Line::Do(Command { kind, race, value, sail, other }), at + end + 1))
+}
+
+/// The kind that a word names, if a race and a sail follow it, and what follows these.
+#[inline(always)]
+fn quick_kind(word: u64) -> Option<(Kind, Last)> {
+    Some(match word {
+        FINISH => (Kind::Finish, Last::Nothing),
+        STRIKE => (Kind::Strike, Last::Nothing),
+        CLEAR => (Kind::Clear, Last::Nothing),
+        TIE => (Kind::Tie, Last::Sail),
+        BEFORE => (Kind::Before, Last::Sail),
+        TIME => (Kind::Time, Last::Value),
+        MARK => (Kind::Mark, Last::Value),
+        PENALTY => (Kind::Penalty, Last::Value),
+        REDRESS => (Kind::Redress, Last::Value),
+        _ => return None,
     })
 }
 

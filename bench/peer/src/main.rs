@@ -13,7 +13,7 @@ mod text;
 
 use crate::line::{number_of, Command, Kind, Role};
 use crate::replay::{Form, Stop, MOST_INPUT};
-use crate::series::{Rules, Series};
+use crate::series::{Rules, Sender, Series};
 use std::fs::File;
 use std::io::{self, Read, Write};
 use std::os::fd::AsFd;
@@ -70,33 +70,27 @@ fn read_options(words: impl Iterator<Item = String>, serves: bool) -> Result<Opt
             found.by_times = true;
             continue;
         }
-        let value = given
-            .or_else(|| words.next())
-            .ok_or_else(|| usage(&format!("{name} has no value")))?;
-        let within = |most: u64| number_of(value.as_bytes(), 7).filter(|number| *number <= most);
+        let value = given.or_else(|| words.next()).ok_or_else(|| usage(&format!("{name} has no value")))?;
         match (name.as_str(), serves) {
             ("--absent", _) => found.absent = value,
             ("--scp", _) => found.scp = Some(value),
             ("--exclude", _) => found.exclude = value,
             ("--journal", _) => found.journal = Some(value),
             ("--entries", _) => found.entries = Some(value),
-            ("--print", false) => {
-                found.form = form_of(&value).ok_or_else(|| usage("unknown form"))?
-            }
+            ("--print", false) => found.form = form_of(&value).ok_or_else(|| usage("unknown form"))?,
             ("--socket", true) => found.socket = Some(value),
-            ("--clients", true) => {
-                let clients = within(16).filter(|clients| *clients > 0);
-                found.clients = clients.ok_or_else(|| usage("clients aren't 1 to 16"))? as usize;
-            }
-            ("--sessions", true) => {
-                found.sessions = within(1_000_000)
-                    .ok_or_else(|| usage("sessions aren't 0 to 1000000"))?
-                    as usize;
-            }
+            ("--clients", true) => found.clients = number_within(&value, 1, 16)?,
+            ("--sessions", true) => found.sessions = number_within(&value, 0, 1_000_000)?,
             _ => return Err(usage(&format!("unknown word {name}"))),
         }
     }
     Ok(found)
+}
+
+/// A number that isn't below `least` or above `most`.
+fn number_within(word: &str, least: u64, most: u64) -> Result<usize, Failure> {
+    let found = number_of(word.as_bytes(), 7).filter(|number| (least..=most).contains(number));
+    found.map(|number| number as usize).ok_or_else(|| usage(&format!("{word} isn't {least} to {most}")))
 }
 
 fn form_of(word: &str) -> Option<Form> {
@@ -113,9 +107,7 @@ fn thresholds_of(text: &str) -> Option<Vec<u32>> {
     if text == "none" {
         return Some(Vec::new());
     }
-    text.split(',')
-        .map(|number| number_of(number.as_bytes(), 2).map(|found| found as u32))
-        .collect()
+    text.split(',').map(|number| number_of(number.as_bytes(), 2).map(|found| found as u32)).collect()
 }
 
 /// The rules, or the number of their fault.
@@ -145,12 +137,7 @@ fn read_rules(options: &Options) -> Result<Rules, u8> {
     if thresholds.last().is_some_and(|last| *last > 40) {
         return Err(5);
     }
-    Ok(Rules {
-        counts_who_came,
-        stated,
-        thresholds,
-        by_times: options.by_times,
-    })
+    Ok(Rules { counts_who_came, stated, thresholds, by_times: options.by_times })
 }
 
 fn failure_of(stop: Stop) -> Failure {
@@ -164,8 +151,7 @@ fn failure_of(stop: Stop) -> Failure {
 fn read_file(path: &Option<String>) -> Result<Option<Vec<u8>>, Failure> {
     let Some(path) = path else { return Ok(None) };
     let mut text = Vec::new();
-    let read =
-        File::open(path).and_then(|file| file.take(MOST_INPUT as u64 + 1).read_to_end(&mut text));
+    let read = File::open(path).and_then(|file| file.take(MOST_INPUT as u64 + 1).read_to_end(&mut text));
     read.map_err(|_| failure_of(Stop::Device))?;
     if text.len() > MOST_INPUT {
         return Err(failure_of(Stop::TooLong));
@@ -175,38 +161,32 @@ fn read_file(path: &Option<String>) -> Result<Option<Vec<u8>>, Failure> {
 
 /// The series after its start.
 fn begin(options: &Options) -> Result<Series, Failure> {
-    let rules =
-        read_rules(options).map_err(|fault| (format!("regatta: rules fault {fault}\n"), 2))?;
+    let rules = read_rules(options).map_err(|fault| (format!("regatta: rules fault {fault}\n"), 2))?;
     let is_sorted = std::env::var("PEER_RANKING").is_ok_and(|way| way == "sorted");
     let mut series = Series::new(rules, is_sorted);
     let fault = |what, (fault, at)| (format!("regatta: {what} fault {fault} {at}\n"), 1);
     let journal = match read_file(&options.journal)? {
-        Some(text) => files::read_journal(&text)
-            .map_err(|(why, at)| fault("journal", (why, format!("line {at}"))))?,
+        Some(text) => {
+            files::read_journal(&text).map_err(|(why, at)| fault("journal", (why, format!("line {at}"))))?
+        }
         None => Vec::new(),
     };
     let sails = match read_file(&options.entries)? {
-        Some(text) => files::read_entries(&text)
-            .map_err(|(why, at)| fault("entries", (why, format!("row {at}"))))?,
+        Some(text) => {
+            files::read_entries(&text).map_err(|(why, at)| fault("entries", (why, format!("row {at}"))))?
+        }
         None => Vec::new(),
     };
     let refused = |why, at| (format!("regatta: start refused {why} at {at}\n"), 1);
     for (at, entry) in journal.iter().enumerate() {
-        let done = series.run(entry.seat, entry.number, entry.role, &entry.command);
+        let from = Sender { seat: entry.seat, number: entry.number, role: entry.role };
+        let done = series.run(from, &entry.command);
         done.map_err(|why| refused(why, at + 1))?;
     }
     for (at, sail) in sails.into_iter().enumerate() {
-        let command = Command {
-            kind: Kind::Enter,
-            race: 0,
-            value: 0,
-            sail,
-            other: 0,
-        };
-        let number = series.next_number(1);
-        series
-            .run(1, number, Role::Scorer, &command)
-            .map_err(|why| refused(why, journal.len() + at + 1))?;
+        let command = Command { kind: Kind::Enter, race: 0, value: 0, sail, other: 0 };
+        let from = series.sender(1, Role::Scorer);
+        series.run(from, &command).map_err(|why| refused(why, journal.len() + at + 1))?;
     }
     Ok(series)
 }

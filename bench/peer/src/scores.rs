@@ -25,6 +25,17 @@ fn average(total: i32, count: u32) -> i16 {
     ((2 * total + count) / (2 * count)) as i16
 }
 
+/// A base with the penalties that a boat holds.
+fn penalised(base: i16, held: u32, dnf: i16, stated: Option<i32>) -> i16 {
+    if held & PENALTIES == 0 || base >= dnf {
+        return base;
+    }
+    let twenty = (2 * i32::from(dnf / 10) + 5) / 10;
+    let (first, second) = ((held >> ZFP & 0xf) as i32, (held >> SCP & 0xf) as i32);
+    let points = first * twenty + second * stated.unwrap_or(twenty);
+    (i32::from(base) + 10 * points).min(i32::from(dnf)) as i16
+}
+
 /// The sum of a row's scores in the races before one.
 #[inline(always)]
 fn total_before(row: &Row, race: usize) -> i32 {
@@ -57,11 +68,7 @@ impl Series {
     /// How many scores are excluded.
     fn drops(&self) -> usize {
         let count = self.standing.counted.count_ones();
-        self.rules
-            .thresholds
-            .iter()
-            .filter(|&&threshold| threshold <= count)
-            .count()
+        self.rules.thresholds.iter().filter(|&&threshold| threshold <= count).count()
     }
 
     /// The DNF score of a race now.
@@ -76,25 +83,12 @@ impl Series {
         10 * (self.boats.iter().filter(came).count() as i16 + 1)
     }
 
-    /// A base with the penalties that a boat holds.
-    fn penalised(&self, base: i16, held: u32, race: usize) -> i16 {
-        let dnf = self.dnf[race];
-        if held & PENALTIES == 0 || base >= dnf {
-            return base;
-        }
-        let twenty = (2 * i32::from(dnf / 10) + 5) / 10;
-        let (first, second) = ((held >> ZFP & 0xf) as i32, (held >> SCP & 0xf) as i32);
-        let points = first * twenty + second * self.rules.stated.unwrap_or(twenty);
-        (i32::from(base) + 10 * points).min(i32::from(dnf)) as i16
-    }
-
     /// Notes that the scores of a boat change.
     #[inline(always)]
     fn note(&mut self, boat: usize) {
         if self.is_sorted && !self.boats[boat].is_changed {
             self.boats[boat].is_changed = true;
-            self.changed
-                .push((self.standing.nets[boat] as u32) << 10 | boat as u32);
+            self.changed.push((self.standing.nets[boat] as u32) << 10 | boat as u32);
         }
     }
 
@@ -131,7 +125,7 @@ impl Series {
         let base = self.boats[boat].base[race];
         let score = match held >> REDRESS {
             0 if held & CODE == DNE => -base,
-            0 => self.penalised(base, held, race),
+            0 => penalised(base, held, self.dnf[race], self.rules.stated),
             points => points as i16,
         };
         let before = std::mem::replace(&mut self.standing.rows[boat][race], score);
@@ -143,31 +137,29 @@ impl Series {
     fn average_again(&mut self, boat: usize) {
         let counted = self.standing.counted;
         let one = &self.boats[boat];
-        let others = counted & !one.averaged;
-        let mut bare = self.standing.rows[boat];
-        for race in Races(counted & one.averaged) {
-            bare[race] = 0;
-        }
+        let row = &mut self.standing.rows[boat];
+        let averaged = counted & one.averaged;
+        let others = counted & !averaged;
         let count = others.count_ones();
-        let mut total = total_of(&bare);
-        let mut row = bare;
-        let all = if count > 0 { average(total, count) } else { 0 };
-        for race in Races(counted & one.averaged) {
+        let bare = Races(averaged).fold(one.total, |total, race| total - i32::from(row[race]));
+        let all = if count > 0 { average(bare, count) } else { 0 };
+        let mut averages = 0;
+        for race in Races(averaged) {
             let (mut points, mut left) = (all, count);
             if one.prior >> race & 1 != 0 {
                 left = (others & ((1 << race) - 1)).count_ones();
                 if left > 0 {
-                    points = average(total_before(&bare, race), left);
+                    points = average(total_before(row, race) - averages, left);
                 }
             }
             if left == 0 {
-                points = self.penalised(one.base[race], one.held[race], race);
+                let (base, held) = (one.base[race], one.held[race]);
+                points = penalised(base, held, self.dnf[race], self.rules.stated);
             }
             row[race] = points;
-            total += i32::from(points);
+            averages += i32::from(points);
         }
-        self.standing.rows[boat] = row;
-        self.boats[boat].total = total;
+        self.boats[boat].total = bare + averages;
         self.weigh(boat);
     }
 
@@ -225,13 +217,8 @@ impl Series {
             while end < order.len() && order[end] & TIED != 0 {
                 end += 1;
             }
-            let boats = order[at..end]
-                .iter()
-                .map(|entry| usize::from(entry & !TIED));
-            let count = boats
-                .clone()
-                .filter(|&boat| self.boats[boat].held[race] & CODE == 0)
-                .count() as i16;
+            let boats = order[at..end].iter().map(|entry| usize::from(entry & !TIED));
+            let count = boats.clone().filter(|&boat| self.boats[boat].held[race] & CODE == 0).count() as i16;
             for boat in boats {
                 self.finish(boat, race, 10 * place + 5 * (count - 1));
             }
@@ -275,14 +262,8 @@ impl Series {
         let order = std::mem::take(&mut self.orders[race]);
         let (mut at, mut place) = (0, 1);
         while at < order.len() {
-            let end = at
-                + 1
-                + order[at + 1..]
-                    .iter()
-                    .take_while(|&next| next & TIED != 0)
-                    .count();
-            let finishes =
-                |entry: &&u16| self.boats[usize::from(*entry & !TIED)].held[race] & CODE == 0;
+            let end = at + 1 + order[at + 1..].iter().take_while(|&next| next & TIED != 0).count();
+            let finishes = |entry: &&u16| self.boats[usize::from(*entry & !TIED)].held[race] & CODE == 0;
             let count = order[at..end].iter().filter(finishes).count() as i16;
             for entry in &order[at..end] {
                 let one = &mut self.boats[usize::from(entry & !TIED)];

@@ -7,7 +7,7 @@ const MOST_BOATS: usize = 500;
 const MOST_ENTRIES: usize = 8192;
 const SLOTS: usize = 2048;
 /// If a rank is asked so often before a score changes, all boats are sorted.
-const OFTEN: usize = 12;
+const OFTEN: usize = 4;
 /// A boat that isn't entered, or that a command doesn't name.
 pub const NOBODY: u16 = u16::MAX;
 
@@ -93,7 +93,15 @@ pub struct Series {
     asked: usize,
 }
 
-/// A command with its boats found, and who sends it.
+/// Who sends a command, and under which number of the seat.
+#[derive(Clone, Copy)]
+pub struct Sender {
+    pub seat: u8,
+    pub number: u32,
+    pub role: Role,
+}
+
+/// A command with its boats found.
 #[derive(Clone, Copy)]
 struct Work {
     kind: Kind,
@@ -111,8 +119,7 @@ pub struct Done {
 }
 
 fn slot_of(sail: Sail) -> usize {
-    let mixed =
-        (sail as u64 ^ ((sail >> 64) as u64).rotate_left(29)).wrapping_mul(0x9e37_79b9_7f4a_7c15);
+    let mixed = (sail as u64 ^ ((sail >> 64) as u64).rotate_left(29)).wrapping_mul(0x9e37_79b9_7f4a_7c15);
     (mixed >> 53) as usize
 }
 
@@ -143,10 +150,7 @@ fn position(order: &[u16], boat: u16) -> usize {
         }
         from += 16;
     }
-    from + rest
-        .iter()
-        .position(|&entry| is_she(entry))
-        .expect("she stands in the order")
+    from + rest.iter().position(|&entry| is_she(entry)).expect("she stands in the order")
 }
 
 /// The first of the boats that are tied with the one at `at`.
@@ -191,11 +195,7 @@ impl Series {
     #[inline]
     pub fn place_of(&mut self, boat: u16) -> Place {
         if self.standing.counted == 0 {
-            return Place {
-                rank: 1,
-                tied: self.boats.len() > 1,
-                net: 0,
-            };
+            return Place { rank: 1, tied: self.boats.len() > 1, net: 0 };
         }
         if !self.is_sorted {
             self.asked += 1;
@@ -209,44 +209,23 @@ impl Series {
         self.standing.find_rank(boat)
     }
 
-    /// The number of a seat's next entry.
-    pub fn next_number(&self, seat: u8) -> u32 {
-        self.last[usize::from(seat)].saturating_add(1)
+    /// Who sends the next command of a seat.
+    pub fn sender(&self, seat: u8, role: Role) -> Sender {
+        Sender { seat, number: self.last[usize::from(seat)].saturating_add(1), role }
     }
 
     /// Runs a command, or says why it is refused.
-    pub fn run(
-        &mut self,
-        seat: u8,
-        number: u32,
-        role: Role,
-        command: &Command,
-    ) -> Result<Done, u8> {
-        let find = |sail| {
-            if sail == 0 {
-                NOBODY
-            } else {
-                self.boat_of(sail)
-            }
-        };
+    pub fn run(&mut self, from: Sender, command: &Command) -> Result<Done, u8> {
+        let find = |sail| if sail == 0 { NOBODY } else { self.boat_of(sail) };
         let (boat, other) = (find(command.sail), find(command.other));
-        self.run_with(seat, number, role, command, boat, other)
+        self.run_with(from, command, boat, other)
     }
 
     /// The same with the boats of the command found.
     #[inline]
-    pub fn run_with(
-        &mut self,
-        seat: u8,
-        number: u32,
-        role: Role,
-        command: &Command,
-        boat: u16,
-        other: u16,
-    ) -> Result<Done, u8> {
-        let Command {
-            kind, race, value, ..
-        } = *command;
+    pub fn run_with(&mut self, from: Sender, command: &Command, boat: u16, other: u16) -> Result<Done, u8> {
+        let Command { kind, race, value, .. } = *command;
+        let Sender { seat, number, role } = from;
         if self.entries.len() >= MOST_ENTRIES {
             return Err(2);
         }
@@ -256,45 +235,23 @@ impl Series {
         if !may(role, kind, value) {
             return Err(4);
         }
-        let mut work = Work {
-            kind,
-            race: usize::from(race) % RACES,
-            bit: 1 << (race % 64),
-            value,
-            boat,
-            other,
-        };
-        if kind == Kind::Enter {
-            work.boat = self.enter(command.sail, boat)?;
-        } else if kind == Kind::Score || kind == Kind::Unscore {
-            self.count(&work)?;
-        } else {
-            self.record(&work, role)?;
+        let bit = 1 << (race % 64);
+        let mut work = Work { kind, race: usize::from(race) % RACES, bit, value, boat, other };
+        match kind {
+            Kind::Enter => work.boat = self.enter(command.sail, boat)?,
+            Kind::Score | Kind::Unscore => self.count(&work)?,
+            _ => self.record(&work, role)?,
         }
         if self.is_sorted {
             self.rank_changed();
-        } else if self.standing.counted & work.bit != 0
-            || matches!(kind, Kind::Enter | Kind::Unscore)
-        {
+        } else if self.standing.counted & bit != 0 || matches!(kind, Kind::Enter | Kind::Unscore) {
             self.asked = 0;
         }
         let boat = work.boat;
-        self.entries.push(Entry {
-            number,
-            value,
-            boat,
-            other,
-            kind,
-            race,
-            seat,
-            role,
-        });
+        self.entries.push(Entry { number, value, boat, other, kind, race, seat, role });
         self.last[usize::from(seat)] = number;
         let boat = (boat != NOBODY).then(|| self.place_of(boat));
-        Ok(Done {
-            place: self.entries.len(),
-            boat,
-        })
+        Ok(Done { place: self.entries.len(), boat })
     }
 
     fn rank_changed(&mut self) {
@@ -422,16 +379,27 @@ impl Series {
         if needs_other && other.is_some_and(|other| other.placed & work.bit == 0) {
             return Err(9);
         }
+        let at = self.put_in_order(work);
+        let boat = &mut self.boats[usize::from(work.boat)];
+        boat.placed |= work.bit;
+        self.mark(work.boat, work.race);
+        if self.standing.counted & work.bit != 0 && self.held(work) & CODE == 0 {
+            let head = head_of(&self.orders[work.race], at);
+            self.score_from(work.race, head, work.boat);
+        }
+        Ok(())
+    }
+
+    /// Puts a boat into the finishing order where the command says, and returns where that is.
+    #[inline]
+    fn put_in_order(&mut self, work: &Work) -> usize {
         let order = &mut self.orders[work.race];
         let mut at = order.len();
         let mut entry = work.boat;
         match work.kind {
             Kind::Tie => {
                 at = position(order, work.other) + 1;
-                at += order[at..]
-                    .iter()
-                    .take_while(|&next| next & TIED != 0)
-                    .count();
+                at += order[at..].iter().take_while(|&next| next & TIED != 0).count();
                 entry |= TIED;
             }
             Kind::Before => at = head_of(order, position(order, work.other)),
@@ -446,14 +414,7 @@ impl Series {
             _ => {}
         }
         order.insert(at, entry);
-        let boat = &mut self.boats[usize::from(work.boat)];
-        boat.placed |= work.bit;
-        self.mark(work.boat, work.race);
-        if self.standing.counted & work.bit != 0 && self.held(work) & CODE == 0 {
-            let head = head_of(&self.orders[work.race], at);
-            self.score_from(work.race, head, work.boat);
-        }
-        Ok(())
+        at
     }
 
     fn held(&self, work: &Work) -> u32 {
@@ -483,9 +444,7 @@ impl Series {
     fn hold(&mut self, work: &Work, held: u32) {
         let boat = &mut self.boats[usize::from(work.boat)];
         let before = std::mem::replace(&mut boat.held[work.race], held);
-        let put = |mask: &mut u64, is_so: bool| {
-            *mask = *mask & !work.bit | if is_so { work.bit } else { 0 }
-        };
+        let put = |mask: &mut u64, is_so: bool| *mask = *mask & !work.bit | if is_so { work.bit } else { 0 };
         put(&mut boat.penalised, held & PENALTIES != 0);
         put(&mut boat.averaged, matches!(held >> REDRESS, ALL | PRIOR));
         put(&mut boat.prior, held >> REDRESS == PRIOR);

@@ -1,12 +1,10 @@
 //! `serve`: a thread for each client, and one lock around the series.
 
-use crate::line::{quick, read_line, Line, Role, Sail, WINDOW};
+use crate::line::{line_end, quick, read_line, Line, Role, Sail, WINDOW};
 use crate::replay::Stop;
 use crate::series::{Done, Entry, Series, NOBODY};
 use crate::standing::{Place, Standing};
-use crate::text::{
-    push_done, push_entries, push_rank, push_refused, push_role, push_sheet_head, push_table,
-};
+use crate::text::{push_done, push_entries, push_rank, push_refused, push_role, push_sheet_head, push_table};
 use std::fs::File;
 use std::io::{Read, Write};
 use std::os::unix::net::{UnixListener, UnixStream};
@@ -51,16 +49,12 @@ impl Session<'_> {
             Line::Do(command) => {
                 let mut series = locked(self.series);
                 let boat = series.boat_of(command.sail);
-                let other = if command.other == 0 {
-                    NOBODY
-                } else {
-                    series.boat_of(command.other)
-                };
+                let other = if command.other == 0 { NOBODY } else { series.boat_of(command.other) };
                 if boat == NOBODY || (command.other != 0 && other == NOBODY) {
                     return None;
                 }
-                let number = series.next_number(self.seat);
-                let done = series.run_with(self.seat, number, self.role, &command, boat, other);
+                let from = series.sender(self.seat, self.role);
+                let done = series.run_with(from, &command, boat, other);
                 drop(series);
                 self.push(done);
             }
@@ -100,8 +94,8 @@ impl Session<'_> {
             Err(fault) => push_refused(fault, &mut self.out),
             Ok(Line::Do(command)) => {
                 let mut series = locked(self.series);
-                let number = series.next_number(self.seat);
-                let done = series.run(self.seat, number, self.role, &command);
+                let from = series.sender(self.seat, self.role);
+                let done = series.run(from, &command);
                 drop(series);
                 self.push(done);
             }
@@ -125,9 +119,7 @@ impl Session<'_> {
         let series = locked(self.series);
         shown.standing.copy_from(&series.standing);
         shown.news.clear();
-        shown
-            .news
-            .extend_from_slice(&series.entries[shown.entries..]);
+        shown.news.extend_from_slice(&series.entries[shown.entries..]);
         drop(series);
         push_entries(&shown.news, &shown.standing.sails, &mut shown.text);
         shown.entries += shown.news.len();
@@ -135,6 +127,39 @@ impl Session<'_> {
         self.out.extend_from_slice(&shown.text);
         push_table(&shown.standing, self.is_sorted, &mut self.out);
         self.out.extend_from_slice(b"END\n");
+    }
+
+    /// Answers the lines that end by `end`, of which the first is only the rest of one if it `is_skipped`. Returns
+    /// where the next line begins; nothing after QUIT.
+    fn answer_all(
+        &mut self,
+        text: &[u8],
+        end: usize,
+        is_skipped: &mut bool,
+        stream: &mut UnixStream,
+    ) -> std::io::Result<Option<usize>> {
+        let mut at = 0;
+        while at < end {
+            let quickly = if *is_skipped { None } else { self.answer_quickly(text, at, end) };
+            if let Some(next) = quickly {
+                at = next;
+            } else {
+                let Some(line_end) = line_end(text, at, end) else {
+                    break;
+                };
+                if std::mem::take(is_skipped) {
+                    push_refused(20, &mut self.out);
+                } else if !self.answer(&text[at..line_end]) {
+                    return Ok(None);
+                }
+                at = line_end + 1;
+            }
+            if self.out.len() >= FULL {
+                stream.write_all(&self.out)?;
+                self.out.clear();
+            }
+        }
+        Ok(Some(at))
     }
 
     /// Answers a client's lines up to QUIT or the end of the stream.
@@ -147,40 +172,15 @@ impl Session<'_> {
                 return Ok(());
             }
             end += count;
-            let mut at = 0;
-            while at < end {
-                let quickly = if is_skipped {
-                    None
-                } else {
-                    self.answer_quickly(&text, at, end)
-                };
-                match quickly {
-                    Some(next) => at = next,
-                    None => {
-                        let Some(length) = text[at..end].iter().position(|&byte| byte == b'\n')
-                        else {
-                            break;
-                        };
-                        if std::mem::take(&mut is_skipped) {
-                            push_refused(20, &mut self.out);
-                        } else if !self.answer(&text[at..at + length]) {
-                            return stream.write_all(&self.out);
-                        }
-                        at += length + 1;
-                    }
-                }
-                if self.out.len() >= FULL {
-                    stream.write_all(&self.out)?;
-                    self.out.clear();
-                }
-            }
+            let next = self.answer_all(&text, end, &mut is_skipped, stream)?;
+            stream.write_all(&self.out)?;
+            self.out.clear();
+            let Some(at) = next else { return Ok(()) };
             text.copy_within(at..end, 0);
             end -= at;
             if end == PIECE {
                 (end, is_skipped) = (0, true);
             }
-            stream.write_all(&self.out)?;
-            self.out.clear();
         }
     }
 }
@@ -210,15 +210,10 @@ fn accept(door: &UnixListener) -> Result<UnixStream, Stop> {
 }
 
 /// Serves clients at a new socket, and prints the table at the end.
-pub fn serve(
-    series: Series,
-    path: &str,
-    clients: usize,
-    sessions: usize,
-    mut out: File,
-) -> Result<(), Stop> {
+pub fn serve(series: Series, path: &str, clients: usize, sessions: usize, mut out: File) -> Result<(), Stop> {
+    // The system would choose an address for an empty path.
+    let door = UnixListener::bind(path).ok().filter(|_| !path.is_empty()).ok_or(Stop::Device)?;
     let is_sorted = series.is_sorted;
-    let door = UnixListener::bind(path).map_err(|_| Stop::Device)?;
     let series = Mutex::new(series);
     // The seats that are free, the lowest of them last.
     let free = Mutex::new((1..=clients as u8).rev().collect::<Vec<u8>>());
@@ -226,7 +221,7 @@ pub fn serve(
     thread::scope(|scope| {
         let mut count = 0;
         while sessions == 0 || count < sessions {
-            let mut stream = match accept(&door) {
+            let stream = match accept(&door) {
                 Ok(stream) => stream,
                 Err(stop) => return ended = Err(stop),
             };
@@ -236,24 +231,7 @@ pub fn serve(
                 continue;
             };
             let (series, free) = (&series, &free);
-            scope.spawn(move || {
-                let _ = stream.set_write_timeout(Some(PATIENCE));
-                let (role, out, shown) = (Role::Scorer, Vec::new(), Shown::default());
-                let _ = Session {
-                    series,
-                    is_sorted,
-                    seat,
-                    role,
-                    out,
-                    shown,
-                }
-                .run(&mut stream);
-                let mut free = locked(free);
-                free.push(seat);
-                free.sort_unstable_by(|one, other| other.cmp(one));
-                drop(free);
-                close(stream);
-            });
+            scope.spawn(move || serve_client(stream, series, is_sorted, seat, free));
         }
         // Whoever comes later doesn't wait for those who are still served.
         drop(door);
@@ -262,4 +240,22 @@ pub fn serve(
     push_table(&locked(&series).standing, is_sorted, &mut text);
     out.write_all(&text).map_err(|_| Stop::Device)?;
     ended
+}
+
+/// Serves a client, and gives their seat back.
+fn serve_client(
+    mut stream: UnixStream,
+    series: &Mutex<Series>,
+    is_sorted: bool,
+    seat: u8,
+    free: &Mutex<Vec<u8>>,
+) {
+    let _ = stream.set_write_timeout(Some(PATIENCE));
+    let (role, out, shown) = (Role::Scorer, Vec::new(), Shown::default());
+    let _ = Session { series, is_sorted, seat, role, out, shown }.run(&mut stream);
+    let mut free = locked(free);
+    free.push(seat);
+    free.sort_unstable_by(|one, other| other.cmp(one));
+    drop(free);
+    close(stream);
 }

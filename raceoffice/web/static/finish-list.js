@@ -7,8 +7,7 @@ import {choose} from "./dialogs.js";
 import {kindOf, spaced} from "./sails.js";
 import {refusalOf} from "./questions.js";
 import {duration, finishers, heldBy} from "./race-view.js";
-import {askedItem, boatNamed, clock, isHere, named, page, queue, raceNow, shownLine} from "./finish-state.js";
-import {answer} from "./finish-answers.js";
+import {answer, askedItem, boatNamed, clock, isHere, named, page, queue, raceNow, shownLine} from "./finish-state.js";
 import {askFinisher, askStrike, askUnread, buzz} from "./finish-taps.js";
 
 // Milliseconds of a long press, and pixels of a swipe to the left

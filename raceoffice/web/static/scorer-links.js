@@ -6,8 +6,7 @@ import {ask} from "./office.js";
 import {choose, hush, say} from "./dialogs.js";
 import {agreedOf} from "./questions.js";
 import {remarkWords, troubleWords} from "./remark-words.js";
-import {agrees} from "./sending.js";
-import {withClass} from "./desk.js";
+import {addressOf, agrees, withClass} from "./sending.js";
 import {codePicture} from "./qr.js";
 
 const ROLES = ["FINISH", "JURY", "SCORER"];
@@ -107,10 +106,13 @@ export function linksPage() {
 // Offices
 
 async function closeOffice(name) {
-  const done = await choose(withClass(text("office.closeQuestion"), name), text("office.closeMeans"),
+  const held = (known.devices?.devices ?? []).filter(one => one.unsent);
+  const inside = [element("p", {}, text("office.closeMeans")),
+    ...held.map(one => element("p", {class: "wrong"}, `${one.name}: ${text("links.losesUnsent", {n: one.unsent})}`))];
+  const done = await choose(withClass(text("office.closeQuestion"), name), inside,
     [{value: "", label: text("common.no")}, {value: "yes", label: text("office.closeIt"), look: "bad"}]);
   if (done !== "yes") return;
-  await ask(`close/${encodeURIComponent(name)}`, {}, CLOSING);
+  await ask(addressOf("close", name), {}, CLOSING);
   lookAtDevices(drawAgain);
 }
 
@@ -125,13 +127,13 @@ export async function openAsking(what, name) {
   const agreed = [];
   for (;;) {
     say(text("office.opening"));
-    const done = await ask(`${what}/${encodeURIComponent(name)}`, {agreed}, what === "reopen" ? CLOSING + OPENING : OPENING);
+    const done = await ask(addressOf(what, name), {agreed}, what === "reopen" ? CLOSING + OPENING : OPENING);
     if (done.status !== 409) {
       sayOpened(done);
       break;
     }
     hush();
-    if (await agrees(done.question, done.said) !== "yes") break;
+    if (await agrees(name, done.question, done.said) !== "yes") break;
     agreed.push(agreedOf(done.question));
   }
 }
