@@ -245,7 +245,7 @@ class Routes:
         return tagged(request, JSON, held[1])
 
     def rulings(self, room: Room) -> Reply:
-        return reply_of(preview.decisions_shown(room.folder, room.facts))
+        return reply_of(preview.decisions_shown(room.folder, room.facts, room.register.known_in(room.facts.sheet.journal)))
 
     def devices(self, mine: Device) -> Reply:
         """The devices that came, and what the offices said."""
