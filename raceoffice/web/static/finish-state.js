@@ -166,7 +166,7 @@ export function toComeCount(name) {
 // Adds a tap: `line` has # in place of the race's number.
 export function addTap(name, line, more = {}) {
   const race = raceNow(name), number = page.races[name];
-  const item = queue.add({class: name, line: line.replace("#", number), seen: page.states[name]?.entries ?? 0, ...more});
+  const item = queue.add({class: name, line: line.replace("#", number), seen: page.states[name]?.entries ?? 0, series: page.states[name]?.series, ...more});
   if (!more.undoes && !line.startsWith("START")) {
     noteUndoable({id: item.id, class: name, line: item.line, back: lineThatUndoes(item.line, race)});
   }
