@@ -178,7 +178,7 @@ class TimedCorrections(WebTrial):
         self.assertEqual([line for line in self.journal()[2:] if " 2 " in line], ["SCORER CLEAR 2 GBR7", "SCORER STRIKE 2 GBR101"])
         self.assertEqual([line for line in self.journal()[2:] if " 1 " in line], [
             "SCORER TIME 1 GBR101 3600", "SCORER TIME 1 GBR7 3510", "SCORER MARK 1 GBR7 RET", "SCORER STRIKE 1 GBR7"])
-        self.assertIn("GBR7,14:00:00,,1:05:00,RET", self.sheet(1))
+        self.assertIn("GBR7,14:00:00,,RET,1:05:00", self.sheet(1))
         self.assertEqual([row for row in self.sheet(2) if "GBR 7" in row or "USA" in row], ["GBR 7,,,,", "USA 1,14:00:00,15:01:00,,"])
         self.need_no_faults()
 
