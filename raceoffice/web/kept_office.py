@@ -54,7 +54,8 @@ class KeptOffice:
     def say(self, *said: str) -> None:
         at = int(time.time() * 1000)
         for text in said:
-            self.said.extend((line, at) for line in ([text] if isinstance(text, Remark) else text.splitlines()))
+            lines: list[str] = [text] if isinstance(text, Remark) else text.splitlines()
+            self.said.extend((line, at) for line in lines)
         self.tell("\n".join(said))
 
     def words(self) -> list[Values]:
