@@ -25,7 +25,7 @@ from raceoffice.session.question_words import question
 from raceoffice.session.undo import later_entry
 from raceoffice.traces import guarded
 from raceoffice.web.finish_order import Moments, later_in_order, line_in_order, without_place
-from raceoffice.web.preview import decided_shown
+from raceoffice.web.preview import NO_ENTRIES, decided_shown
 from raceoffice.web.race_start import clock_shown
 from raceoffice.web.sheet_waits import with_reasons
 from raceoffice.web.states import (Values, boats_of, moves_of, races_of, rules_of, said_of, standing_of, unlisted)
@@ -143,8 +143,13 @@ class Room:
             found |= {"standing": standing_of(facts.standing), "last": self.last,
                       "unlisted": unlisted(facts), "journal": facts.sheet.journal[-SHOWN:],
                       "unfinished": self.register.unfinished(facts.sheet.journal),
-                      "decisions": decided_shown(self.decisions.look(facts.sheet))}
+                      "decisions": self.decisions_now(facts)}
         return found
+
+    def decisions_now(self, facts: Facts) -> list[Values]:
+        """The decisions of the class, and what each comes to."""
+        found, journal = self.decisions.look(facts.sheet), facts.sheet.journal
+        return decided_shown(found, journal, self.register.known_in(journal) if found.verdicts else NO_ENTRIES)
 
     def races(self, facts: Facts) -> Values:
         """The races of which anything is recorded, with their sheets of times if the class has some."""
@@ -245,9 +250,9 @@ class Room:
             session = self.session(role)
             session.begin(tap, name)
             try:
-                session.look()
-                # What the journal has is known by now.
-                return self.done(tap) or self.done_now(session, tap)
+                with session.as_it_is():
+                    # What the journal has is known by now.
+                    return self.done(tap) or self.done_now(session, tap)
             except Trouble as trouble:
                 self.give_up(session, trouble)
                 raise
