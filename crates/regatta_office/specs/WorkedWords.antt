@@ -11,8 +11,8 @@ use Rattle.clap.specs.declared.error.kind.ErrorKind.TheVariants.{ValueValidation
 use Rattle.regatta_tables.specs.Examples.{Gives}
 use Rattle.regatta_office.specs.declared.form.Form.TheVariants.{Table, Csv}
 use Rattle.regatta_office.specs.Asked.{Series}
-use Rattle.regatta_office.specs.Words.{AskHelp, AskVersion, asked_of, regatta, with_rules, with_seats}
-use Rattle.regatta_office.specs.Words.{with_start}
+use Rattle.regatta_arguments.specs.Asking.{AskHelp, AskVersion}
+use Rattle.regatta_office.specs.Words.{asked_of, regatta, with_rules, with_seats, with_start}
 use Rattle.regatta_office.specs.declared.options.Asked.{Asked}
 use Rattle.regatta_office.specs.declared.options.Asked.TheVariants.{Replay, Serve}
 
@@ -75,8 +75,8 @@ pub runs : (forms : ValueParser) → Gives (asked_of forms)
 unfolding clap_on_literals regatta with_rules with_start with_seats
 runs forms = refl
 
-pub help : (forms : ValueParser) → AskHelp forms (codes "--help" ∷ [])
-    × AskHelp forms (codes "replay" ∷ codes "--help" ∷ [])
+pub help : (forms : ValueParser) → AskHelp (regatta forms) (codes "--help" ∷ [])
+    × AskHelp (regatta forms) (codes "replay" ∷ codes "--help" ∷ [])
 unfolding clap_on_literals regatta with_rules with_start with_seats
 help forms = (inl refl, inl refl)
 
@@ -96,7 +96,7 @@ pub faults : (forms : ValueParser) → Gives (fault_of (regatta forms))
 unfolding clap_on_literals regatta with_rules with_start with_seats
 faults forms = refl
 
-pub version : (forms : ValueParser) → AskVersion forms (codes "--version" ∷ [])
-    × AskVersion forms (codes "-V" ∷ [])
+pub version : (forms : ValueParser) → AskVersion (regatta forms) (codes "--version" ∷ [])
+    × AskVersion (regatta forms) (codes "-V" ∷ [])
 unfolding clap_on_literals regatta with_rules with_start with_seats
 version forms = (inl refl, inl refl)
