@@ -427,6 +427,8 @@ ENGLISH: dict[str, str | tuple[str, str] | tuple[str, str, str]] = {
     "rounding-changed": "somebody else has changed the rounding meanwhile: look again",
     "zone-in-race": "race {race} has a start and doesn't count yet: its times are those of this time zone. Score or abandon "
                     "it first",
+    "zone-kept": "Race {race} goes on by the clock of {zone}, by which it began. That of {other} holds once the race counts and "
+                 "the office is opened again.",
     "rules-refused": "the program refuses these rules",
     "list-not-whole": "the list didn't come whole",
     "list-too-long": "the list is longer than {most} bytes",

@@ -2,8 +2,10 @@
 from __future__ import annotations
 
 import bisect
+import contextlib
 import datetime
 import functools
+import os
 import re
 import zoneinfo
 
@@ -16,6 +18,8 @@ WEEK = 7 * 86400
 MOST = 14 * 60
 # The end of a moment in words: `CET (UTC+1)`, `UTC+5:30` or `UTC`.
 END = re.compile(r"[0-9] (?:([A-Za-z]{3,6}) \()?UTC(?:([+-])([0-9]{1,2})(?::([0-9]{2}))?)?\)?")
+# The file with this computer's zone, a link to one of its name; one with that name; and the most that is read of that
+LOCAL_TIME, ZONE_NAME, LONGEST = "/etc/localtime", "/etc/timezone", 200
 # Files that hold a zone, but whose names are no zone's: another computer may have another zone there.
 UNNAMED = re.compile("localtime|posixrules|Factory|(?:posix|right)/.*")
 
@@ -45,6 +49,33 @@ def changes_of(zone: datetime.tzinfo | None, now: datetime.datetime) -> list[lis
             seconds = range(at - WEEK, at + 1)
             found.append((seconds[bisect.bisect_left(seconds, True, key=lambda second: ahead(second) == held)], held))
     return [[since * 1000, int(held.total_seconds() * 1000)] for since, held in found]
+
+
+def of_this_computer() -> str:
+    """The name of this computer's zone, as it is set; empty if it isn't set by a name."""
+    return next((name for name in names_set() if is_like_computer(name)), "")
+
+
+def like_computer() -> str:
+    """The name of a zone that has this computer's clock; empty if there is none."""
+    return of_this_computer() or next((zone.key for zone in all_zones() if is_like_computer(zone.key)), "")
+
+
+def names_set() -> list[str]:
+    """The names by which a computer may say in which zone it is."""
+    if "TZ" in os.environ:
+        found = [os.environ["TZ"]]
+    else:
+        found = [os.path.realpath(LOCAL_TIME)]
+        with contextlib.suppress(OSError, ValueError), open(ZONE_NAME, encoding="ascii") as file:
+            found.append(file.read(LONGEST).strip())
+    return [*(name.removeprefix(":").rpartition("zoneinfo/")[2] for name in found), "UTC"]
+
+
+def is_like_computer(name: str) -> bool:
+    """Whether a text is the name of a zone with this computer's clock."""
+    now = datetime.datetime.now(datetime.timezone.utc)
+    return is_name(name) and changes_of(zoneinfo.ZoneInfo(name), now) == changes_of(None, now)
 
 
 def has_name(local: datetime.datetime) -> bool:

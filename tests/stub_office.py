@@ -114,6 +114,7 @@ OPEN: list[dict[str, Any]] = [
     {"kind": "boats-unnamed", "values": {"sails": ["USA4", "USA5"]}, "text": ""},
     {"kind": "race-unscored", "values": {"race": 2, "finished": 7, "held": [f"{SAILS[7]} OCS", f"{SAILS[8]} RET"]}, "text": ""},
     {"kind": "finishers-unknown", "values": {"races": ["2"], "marks": ["?1"]}, "text": ""},
+    {"kind": "taps-unsent", "values": {"devices": ["Ann’s phone (2)", "Ben (1)"]}, "text": ""},
     {"kind": "decision-stale", "values": {"race": 1, "sail": "GBR101", "kind": "DPI", "how": "2", "points": "7.0", "held": "6.0", "why": ""},
      "text": ""},
     {"kind": "decisions-unread", "values": {"fault": str(NO_DECISION)}, "text": "", "remarks": {"fault": remarks_of([NO_DECISION])[0]}}]

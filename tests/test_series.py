@@ -262,13 +262,15 @@ class Opening(helpers.Series):
         again.read(r"open since 09:00, but its window has gone\. Take it over\? \[Y/n\] ")
 
     def test_new_with_all_exclusions(self) -> None:
-        """Up to four scores are excluded; what of a list isn't read is said."""
+        """Up to four scores are excluded; what of a list isn't read is said. The time zone is this computer's."""
         self.write("Sail,Helm,Phone\nGBR 7,J. Hale,07700\n", "boats.csv")
-        said, status = helpers.run("new", "spring", lines="Spring\n\n\nboats.csv\n3\n4\n8\n12\n16\nn\n\nn\n\n",
-                                   cwd=self.here)
+        with helpers.time_zone("Europe/Berlin"):
+            said, status = helpers.run("new", "spring", lines="Spring\n\n\nboats.csv\n3\n4\n8\n12\n16\nn\n\nn\n\n",
+                                       cwd=self.here)
         self.assertEqual(status, 0, said)
         self.assertIn("Phone", said)
         self.assertIn("exclude = 4,8,12,16\n", self.text("spring", "series.ini"))
+        self.assertIn("\nzone = Europe/Berlin\n", self.text("spring", "series.ini"))
 
     def test_new_without_a_list(self) -> None:
         """Of a list that isn't put right no series is made."""

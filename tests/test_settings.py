@@ -1,9 +1,11 @@
 """The settings: every key, its misspelling, and what a change leaves as it was."""
 from __future__ import annotations
 
+import contextlib
 import datetime
 import os
 import unittest
+import unittest.mock
 import zoneinfo
 
 import helpers
@@ -31,6 +33,32 @@ class Clocks(unittest.TestCase):
     def test_of_this_computer(self) -> None:
         with helpers.time_zone("Asia/Kathmandu"):
             self.assertEqual(self.changes(None), [("2025-01-01 00:00:00", 5.75)])
+
+    def test_names(self) -> None:
+        """The name of this computer's zone is one of a zone with its clock. A clock without a name is like that of some zone."""
+        for name in ("Europe/Berlin", ":Europe/Berlin", "/usr/share/zoneinfo/Europe/Berlin"):
+            with helpers.time_zone(name):
+                self.assertEqual((time_zones.of_this_computer(), time_zones.like_computer()), ("Europe/Berlin",) * 2)
+        with helpers.time_zone("XYZ-1ABC,M3.5.0,M10.5.0/3"):
+            self.assertEqual(time_zones.of_this_computer(), "")
+            self.assertEqual(self.changes(zoneinfo.ZoneInfo(time_zones.like_computer())), self.changes(zoneinfo.ZoneInfo("Europe/Berlin")))
+        with helpers.time_zone("XYZ-1:07"):
+            self.assertEqual((time_zones.of_this_computer(), time_zones.like_computer()), ("", ""))
+
+    def test_name_in_a_file(self) -> None:
+        """Without TZ it is the one to which /etc/localtime leads, or that of /etc/timezone, if this is its clock."""
+        with helpers.folder() as here, helpers.time_zone("Europe/Berlin"), contextlib.ExitStack() as stack:
+            local, name = os.path.join(here, "localtime"), os.path.join(here, "timezone")
+            stack.enter_context(unittest.mock.patch.multiple(time_zones, LOCAL_TIME=local, ZONE_NAME=name))
+            del os.environ["TZ"]
+            self.assertEqual(time_zones.of_this_computer(), "")
+            for written in ("Europe/Lisbon", "Europe/Berlin"):
+                with open(name, "w", encoding="ascii") as file:
+                    file.write(f"{written}\n")
+                self.assertEqual(time_zones.of_this_computer(), written if written == "Europe/Berlin" else "")
+            os.remove(name)
+            os.symlink("/usr/share/zoneinfo/Europe/Berlin", local)
+            self.assertEqual(time_zones.of_this_computer(), "Europe/Berlin")
 
 
 class Settings(unittest.TestCase):

@@ -10,7 +10,7 @@ import helpers
 from raceoffice.errors import NotSent
 from raceoffice.series.entry_list import Boat
 from raceoffice.series.mend_list import mended
-from raceoffice.web.new_series import settings_shown
+from raceoffice.web.new_series import folder_made, settings_shown
 from web_devices import Device, Web
 
 GERMAN = ("Herbstpokal 2026;;;;\nStand: 1. Oktober;;;;\nBoot;Segelnummer;Steuermann;Crew;Yardstick\n"
@@ -124,6 +124,10 @@ class First(Web):
         finish = self.device("finish")
         self.assertEqual(finish.tap("FINISH 1 GER412", name="herbst")[1]["outcome"], "taken")
         helpers.until("the board", lambda: "Herbstpokal" in str(scorer.ask("GET", "/")[1]))
+        with helpers.time_zone("Europe/Berlin"), helpers.folder() as here:
+            folder_made(here, {"name": "berlin", "text": found["text"], "settings": {"title": "Herbstpokal"}})
+            with open(os.path.join(here, "berlin", "series.ini"), encoding="utf-8") as file:
+                self.assertIn("\nzone = Europe/Berlin\n", file.read())
         for name, text, settings in [("herbst", found["text"], given), ("../x", found["text"], given),
                                      ("next", "Sail\n?\n", given),
                                      ("next", found["text"], {**given, "exclude": "1"}),

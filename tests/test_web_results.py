@@ -3,6 +3,7 @@ from __future__ import annotations
 
 import json
 import os
+import signal
 import threading
 import unittest
 from typing import Any
@@ -115,6 +116,33 @@ class Declared(Results):
         self.write("race 1 GBR7 DPI 2\nrace 1 K12\n", "cup", "decisions.txt")
         helpers.until("the other decision", lambda: [one.get("points") for one in jury.state()["decisions"]] == ["5.0", None])
         self.assertEqual([point["kind"] for point in self.shown()["open"]], ["decision-stale", "decisions-unread"])
+
+    def test_taps_unsent(self) -> None:
+        """Taps that a device has said to hold are named before a race is scored, before results are final, and before the
+        office closes; once they have come they aren't."""
+        held: dict[str, object] = {"id": new_id(), "line": "FINISH 1 GBR7", "at": 1, "seen": 12}
+        self.finish.ask("GET", "/office/finish/me", X_Unsent="2")
+        self.finish.tap("FINISH 1 GBR101")
+        status, said = self.scorer.tap("SCORE 1")
+        self.assertEqual((status, said["question"]["kind"], said["question"]["values"]),
+                         (409, "score-unsent", {"race": 1, "devices": ["Ann (2)"]}))
+        self.assertIn("Ann (2)", said["question"]["text"])
+        self.assertIn(["taps-unsent", {"devices": ["Ann (2)"]}], [[one["kind"], one["values"]] for one in self.shown()["open"]])
+        status, said = self.declare("final")
+        self.assertEqual((status, said["question"]["values"]["devices"], "all the same" in said["question"]["text"]),
+                         (409, ["Ann (2)"], True))
+        # A tap that the office answers waits no longer, whether it was taken or not; one that is asked does.
+        for line, status, left in (("FINISH 1 GBR7", 200, "Ann (1)"), ("SCORE 1", 422, "")):
+            tap = held | {"id": new_id(), "line": line}
+            self.assertEqual(self.finish.ask("POST", "/office/finish/line/cup", tap, X_Unsent="2" if left else "1")[0], status)
+            self.assertEqual([one["values"]["devices"] for one in self.shown()["open"] if one["kind"] == "taps-unsent"],
+                             [[left]] if left else [])
+        self.assertEqual(self.scorer.tap("SCORE 1")[1]["question"]["kind"], "score-missing")
+        # Who scores knows her own taps.
+        self.scorer.ask("GET", "/office/scorer/me", X_Unsent="1")
+        self.assertEqual(self.scorer.tap("SCORE 1")[1]["question"]["kind"], "score-missing")
+        self.web.send_signal(signal.SIGINT)
+        helpers.until("who may still write", lambda: "Bea (scorer, 1 tap not sent yet)" in self.said())
 
     def test_asked_first(self) -> None:
         """Nothing is declared before somebody has agreed, to just what is open and to just this table."""

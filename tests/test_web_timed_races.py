@@ -7,8 +7,9 @@ import unittest
 from typing import Any
 
 import helpers
-from test_web_timed import Prepared, moment
-from web_devices import Device
+from raceoffice.series import settings
+from test_web_timed import ENTRIES, Prepared, moment
+from web_devices import Device, Web
 
 
 @helpers.needs_times
@@ -189,6 +190,84 @@ class Clocks(Prepared):
         self.assertEqual(scorer.ask("POST", "/office/scorer/save/cup", given)[0], 422)
         self.write("Sail,Start,Finish,Code\nGBR101,,,\n", "cup", "times", "race-2.csv")
         self.assertEqual(scorer.ask("POST", "/office/scorer/save/cup", given)[0], 200)
+
+
+@helpers.needs_times
+class OtherComputer(Web):
+    """The office of a series is opened in the middle of a race on a computer in another zone. Lisbon is an hour behind
+    Berlin."""
+
+    def prepare(self) -> None:
+        self.write(ENTRIES, "cup", "entries.csv")
+        self.settle("")
+        os.mkdir(os.path.join(self.here, "cup", "times"))
+        self.write(f"[times]\nsystem = tcf\nprogram = {helpers.TIMES}\n", "cup", "times", "rules.ini")
+
+    def settle(self, zone: str) -> None:
+        self.write(settings.filled_in({"title": "Autumn Cup", "program": helpers.PROGRAM, "zone": zone, "handicap": "yes"}),
+                   "cup", "series.ini")
+
+    def serve(self, *more: str) -> None:
+        with helpers.time_zone("Europe/Berlin" if self.said() else "Europe/Lisbon"):
+            super().serve(*more)
+
+    def finish(self, sail: str, at: str) -> None:
+        """Somebody sees her finish in race 1."""
+        device = self.device("finish", sail)
+        self.assertEqual(device.tap(f"FINISH 1 {sail}", at=utc(f"2026-11-25T{at}"))[1]["outcome"], "taken")
+
+    def begun(self) -> Device:
+        """The scorer's device, after a start and a finish: GBR 101 has sailed for 30 minutes."""
+        self.device("finish").tap("START 1", at=utc("2026-11-25T12:00:00"))
+        self.finish("GBR101", "12:30:00")
+        return self.device("scorer")
+
+    def clock(self, device: Device) -> float:
+        """By how many hours the clock of the pages is ahead of UTC in November."""
+        at = utc("2026-11-25T12:00:00")
+        return float([ahead / 3_600_000 for since, ahead in device.state()["zone"] if since <= at][-1])
+
+    def test_goes_on(self) -> None:
+        """The race goes on by the clock by which it began, 1,801 s x 0.900 = 1,620.9 s, which is said. Its zone can be
+        written into the settings, and no other one. Once it counts, this computer's zone holds."""
+        scorer = self.begun()
+        self.assertEqual(self.clock(scorer), 0)
+        self.close()
+        self.serve()
+        scorer = scorer.again()
+        said = "Race 1 goes on by the clock of Europe/Lisbon, by which it began. That of Europe/Berlin holds once"
+        self.assertIn(said, self.said())
+        self.finish("GBR7", "12:30:01")
+        self.assertEqual((self.journal(), self.clock(scorer)), (["FINISH TIME 1 GBR101 1800", "FINISH TIME 1 GBR7 1621"], 0))
+        tag = scorer.ask("GET", "/office/scorer/rules/cup", None)[1]["tag"]
+        for zone, status in (("Europe/Berlin", 422), ("Europe/Lisbon", 200)):
+            given = {"settings": {"zone": zone}, "tag": tag}
+            self.assertEqual(scorer.ask("POST", "/office/scorer/save/cup", given)[0], status, zone)
+        self.settle("")
+        Races.yes(scorer, "SCORE 1")
+        before = self.said().count(said)
+        self.close()
+        self.serve()
+        self.assertEqual((self.clock(scorer.again()), self.said().count(said)), (1, before))
+
+    def test_other_setting(self) -> None:
+        """So it is if somebody has written another zone into series.ini by hand."""
+        self.begun()
+        self.close()
+        self.settle("Pacific/Honolulu")
+        self.serve()
+        self.assertIn("by the clock of Europe/Lisbon, by which it began. That of Pacific/Honolulu holds once", self.said())
+        self.finish("GBR7", "12:30:01")
+        self.assertEqual(self.journal()[-1], "FINISH TIME 1 GBR7 1621")
+
+    def test_no_race(self) -> None:
+        """A race that was abandoned has no start any more: the next one goes by this computer's clock."""
+        scorer = self.begun()
+        Races.yes(scorer, "ABANDON 1")
+        self.close()
+        self.serve()
+        self.assertNotIn("goes on by the clock", self.said())
+        self.assertEqual(self.clock(scorer.again()), 1)
 
 
 def utc(text: str) -> int:

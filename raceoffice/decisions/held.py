@@ -35,8 +35,8 @@ class Holding:
         elif command == "CLEAR":
             self.code, self.role, self.before, self.redress = "", "", ("", ""), ""
             self.penalties = []
-        self.was_decided |= command == "REDRESS" or what in OF_JURY or \
-            (command == "PENALTY" and role == "JURY")
+        # Of a decision that gave her a DNF alone, and was taken out, the jury's CLEAR is left.
+        self.was_decided |= role == "JURY" or command == "REDRESS" or what in OF_JURY
 
     @property
     def is_any(self) -> bool:
@@ -94,6 +94,24 @@ def restored(race: int, sail: str, held: Holding) -> list[Line]:
     it."""
     code = [marked(race, sail, held.code, held.role)] if held.code else []
     return code + [Line(role, f"PENALTY {race} {sail} {kind}") for kind, role in held.penalties]
+
+
+def without_one(race: int, sail: str, code: str, held: Holding) -> list[Line]:
+    """The lines after which a boat holds all but one thing: DSQ or DNE, which gives back what it has replaced, one of her
+    penalties, or her redress (`RDG`). None if she doesn't hold it."""
+    kept = Holding(held.code, held.role, held.before, list(held.penalties), held.redress)
+    given = next((one for one in reversed(held.penalties) if one[0] == code), None)
+    if code == "RDG" and held.redress:
+        kept.redress = ""
+    elif code in OF_JURY and code == held.code:
+        kept.code, kept.role, kept.before = *held.before, ("", "")
+    elif given:
+        kept.penalties.remove(given)
+    else:
+        return []
+    replaced = [marked(race, sail, *kept.before)] if kept.before[0] else []
+    redress = [Line("JURY", f"REDRESS {race} {sail} {kept.redress}")] if kept.redress else []
+    return [cleared(race, sail), *replaced, *restored(race, sail, kept), *redress]
 
 
 def reinstated(race: int, sail: str, held: Holding) -> list[Line]:

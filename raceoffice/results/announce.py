@@ -103,6 +103,11 @@ def of_decisions(folder: Folder, sheet: Sheet, decisions: DecisionsNow) -> list[
     return [*(of_decision(folder, verdict) for verdict in found.verdicts if not verdict.is_kept), *wrong]
 
 
+def of_unsent(devices: Sequence[str]) -> Open:
+    """Devices that hold taps which the office hasn't got."""
+    return Open("taps-unsent", {"devices": tuple(devices)}, f"Taps that the office hasn't got wait on {joined(devices)}.")
+
+
 def of_decision(folder: Folder, verdict: Verdict) -> Open:
     ruling = verdict.ruling
     values: dict[str, Value] = {"race": ruling.race, "sail": ruling.sail, "kind": ruling.kind, "how": ruling.how, "points": verdict.points,
@@ -122,9 +127,10 @@ def asked_of(state: str, points: Sequence[Open], mark: str = "") -> Question:
 
     decisions = [" ".join(str(point.values[name]) for name in ("race", "sail", "kind", "points", "held"))
                  for point in points if point.kind == "decision-stale"]
+    devices = all_of("taps-unsent", "devices")
     return question("announce", str, state=state, table=mark, races=all_of("race-unscored", "race"),
                     sails=all_of("boats-unnamed", "sails"), marks=all_of("finishers-unknown", "marks"),
-                    faults=(*all_of("places-unread", "fault"), *all_of("decisions-unread", "fault")), decisions=decisions)
+                    faults=(*all_of("places-unread", "fault"), *all_of("decisions-unread", "fault")), decisions=decisions, **({"devices": devices} if devices else {}))
 
 
 def need_reason(state: str, reason: str) -> str:

@@ -7,6 +7,7 @@ import shlex
 import tempfile
 from collections.abc import Callable
 
+from raceoffice import time_zones
 from raceoffice.characters import utf8
 from raceoffice.errors import Trouble, as_trouble
 from raceoffice.remarks import remark
@@ -158,7 +159,7 @@ def new(folder: str) -> int:
     given, data = right_list(list_path)
     say(f"   {boats_in_words(list(entry_list.read(given).values()))}")
     say_if_any(entry_list.left_in_words(data))
-    values |= asked_rules() | {"program": program_for(folder)}
+    values |= asked_rules() | {"program": program_for(folder), "zone": time_zones.of_this_computer()}
     say_if_any(entry_list.rating_note(data, "entries.csv", values["handicap"] == "yes"))
     is_elsewhere = os.path.abspath(given) != os.path.abspath(list_path)
     write_new(folder, values, data if is_elsewhere else None)
@@ -182,7 +183,7 @@ def make(folder: str, values: dict[str, str], entries: bytes) -> None:
     then."""
     if os.path.lexists(os.path.join(folder, settings.NAME)):
         raise Trouble(remark("ini-there", name=folder))
-    values = {"copy": "", "program": program_for(folder), **values}
+    values = {"copy": "", "program": program_for(folder), "zone": time_zones.of_this_computer(), **values}
     if wrong := settings.problems(settings.filled_in(values)) + entry_list.problems(entries, NAME):
         raise Trouble(*wrong)
     write_new(folder, values, entries)

@@ -14,8 +14,7 @@ from raceoffice.wording import count
 
 def abandon(seat: Seat, race: Race) -> bool:
     """Takes a race away, after a question; whether all its lines were taken."""
-    plan, kept = plan_of_abandoning(race), seat.unread.marks(race.number)
-    sheet = sheet_without_race(seat.folder, race.number, plan.jury)
+    plan, kept, sheet = what_goes(seat, race)
     needed = {line.split()[0] for line in plan.lines} | ({"STRIKE"} if kept or sheet else set())
     if barred := sorted(needed - MAY[seat.role]):
         raise NotSent(remark("abandon-role", race=race.number, lines=barred, role=seat.role.lower()))
@@ -27,13 +26,19 @@ def abandon(seat: Seat, race: Race) -> bool:
         seat.question("clear-sheet", race=race.number)
     if not seat.ask(asked):
         return seat.not_sent()
+    seat.look()
+    now = seat.facts.race(str(race.number))
+    if what_goes(seat, now) != (plan, kept, sheet):
+        # What others have recorded meanwhile was never shown.
+        return abandon(seat, now)
     if sheet:
         # What it had would be sent again by the next tap.
         clear_sheet(seat.folder, race.number, sheet)
     before, length = seat.facts.standing, len(seat.facts.sheet.journal)
     if not is_sent(seat, race, plan):
         return False
-    seat.drop_safely(seat.unread.of(race.number), f"race {race.number} was taken away")
+    named = [unread for unread in seat.unread.of(race.number) if unread.mark in kept]
+    seat.drop_safely(named, f"race {race.number} was taken away")
     lines = count(len(plan.lines), "line")
     seat.done = Done(why=remark("undo-abandon", race=race.number, lines=lines))
     seat.say_of("taken-away", race=race.number, lines=len(plan.lines))
@@ -42,6 +47,12 @@ def abandon(seat: Seat, race: Race) -> bool:
         seat.tell_all(changes_said(seat.facts, before, None, mixed))
     say_declared(seat, before)
     return True
+
+
+def what_goes(seat: Seat, race: Race) -> tuple[Plan, list[str], bytes]:
+    """How a race is taken away, the places that are dropped, and its sheet of times without it."""
+    plan = plan_of_abandoning(race)
+    return plan, seat.unread.marks(race.number), sheet_without_race(seat.folder, race.number, plan.jury)
 
 
 def is_sent(seat: Seat, race: Race, plan: Plan) -> bool:

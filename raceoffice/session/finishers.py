@@ -1,11 +1,13 @@
 """What is typed of finishers whose sails aren't known: their places are kept, until each is known."""
 from __future__ import annotations
 
+import dataclasses
+
 from raceoffice.errors import NotSent
-from raceoffice.program.journal import Race
+from raceoffice.program.journal import Race, Series
 from raceoffice.remarks import remark
 from raceoffice.series.entry_list import near
-from raceoffice.series.kept_places import Twin
+from raceoffice.series.kept_places import Note, Twin
 from raceoffice.series.unknown_finishers import MARK, Unread
 from raceoffice.session.parse import FIRST, MAY, boat_meant, boats_meant, short
 from raceoffice.session.seat import Done, Seat
@@ -84,13 +86,54 @@ def send_known(seat: Seat, race: Race, meant: Unread, words: list[str]) -> bool:
         seat.done = Done(unread=meant, what="dropped")
         seat.say_of("place-dropped", mark=meant.mark)
         return True
-    line = meant.line(sail_for(seat, meant, words), race)
+    sail = sail_for(seat, meant, words)
+    while True:
+        line, last = meant.line(sail, race), seat.history.open_line(meant)
+        seat.say(f"   {line}")
+        if not (may_send(seat, line, last.line if last else line, meant) and is_meant(seat, line)):
+            return seat.not_sent()
+        with seat.as_it_is():
+            # Others may have finished while somebody was asked: then her line is another, and is asked about.
+            meant, counted = seat.unread.one(race.number, meant.mark), race.counts
+            race = seat.facts.race(str(race.number))
+            if (meant.line(sail, race), race.counts) == (line, counted):
+                return is_put_there(seat, meant, line, last)
+
+
+def is_put_there(seat: Seat, meant: Unread, line: str, last: Note | None) -> bool:
+    """Sends the line of a finisher who is known now; whether it was taken. `last` is the one that was sent before and has no
+    answer."""
+    length, sail = len(seat.facts.sheet.journal), line.split()[2]
+    seat.places.note_sent(meant, line, length, last)
+    if not transmit(seat, line, meant):
+        return False
+    number = seat.done.number if seat.done else 0
+    if number > length + 1 and line_wanted(seat, meant, sail, number) != line:
+        # Somebody who didn't wait, as nobody does for long, has sent a line in between.
+        put_right(seat, meant, sail)
+    return True
+
+
+def line_wanted(seat: Seat, meant: Unread, sail: str, number: int) -> str:
+    """The line that puts a boat into a place by the journal before the entry of this number."""
+    before = seat.facts.sheet.journal[:number - 1]
+    order = seat.places.read(seat.facts.commands[:number - 1]).order(meant.race)
+    there = dataclasses.replace(meant, ahead=order.ahead_of(meant.mark))
+    return there.line(sail, Series.read(list(before)).race(meant.race))
+
+
+def put_right(seat: Seat, meant: Unread, sail: str) -> None:
+    """Strikes a boat that was put into her place by a line that came too late, and puts her there."""
+    strike = f"STRIKE {meant.race} {sail}"
+    seat.say(f"   {strike}")
+    leaving = seat.places.note_leaving(meant, strike, len(seat.facts.sheet.journal))
+    if not transmit(seat, strike):
+        seat.places.take_back(leaving, "refused")
+        return
+    again = seat.unread.one(meant.race, meant.mark)
+    line = again.line(sail, seat.facts.race(str(meant.race)))
     seat.say(f"   {line}")
-    last = seat.history.open_line(meant)
-    if not (may_send(seat, line, last.line if last else line, meant) and is_meant(seat, line)):
-        return seat.not_sent()
-    seat.places.note_sent(meant, line, len(seat.facts.sheet.journal), last)
-    return transmit(seat, line, meant)
+    is_put_there(seat, again, line, None)
 
 
 def sail_for(seat: Seat, meant: Unread, words: list[str]) -> str:

@@ -3,7 +3,7 @@ from __future__ import annotations
 
 import contextlib
 import dataclasses
-from collections.abc import Callable, Iterable
+from collections.abc import Callable, Iterable, Iterator
 from dataclasses import dataclass, field
 from time import monotonic
 
@@ -11,6 +11,7 @@ from raceoffice.errors import Gone, NotSent, Trouble, said_of
 from raceoffice.program.journal import Race
 from raceoffice.program.link import Link
 from raceoffice.remarks import remark
+from raceoffice.series.at_the_line import AtTheLine
 from raceoffice.series.folder import Folder
 from raceoffice.series.kept_places import History, Places, Twin
 from raceoffice.series.lost_lines import UNANSWERED, as_kept
@@ -45,6 +46,7 @@ class Seat:
         self.folder, self.role, self.name, self.tell, self.ask = folder, role, name, tell, ask
         self.facts, self.places = Facts(folder), Places(folder, name or role.lower())
         self.history, self.twins, self.once = History(), Twins(folder), Once()
+        self.at_the_line = AtTheLine(folder)
         self.done: Done | None = None
         self.sent: dict[int, str] = {}
         self.at: int | None = None
@@ -119,6 +121,14 @@ class Seat:
             for what, values in followed:
                 self.say_of(what, **values)
             self.look_at_places()
+
+    @contextlib.contextmanager
+    def as_it_is(self) -> Iterator[None]:
+        """What is known is as it is now, and no other window or page sends a line meanwhile that places a boat."""
+        with self.at_the_line.alone() as is_new:
+            if is_new:
+                self.look()
+            yield
 
     def look_at_journal(self) -> None:
         """Reads journal and table as they are now."""

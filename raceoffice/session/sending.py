@@ -53,7 +53,8 @@ def transmit(seat: Seat, line: str, unread: Unread | None = None) -> bool:
     """Sends a line that nothing has to be asked of any more; whether it was taken. `unread` is the
     finisher whose place it is for."""
     before, length = seat.facts.standing, len(seat.facts.sheet.journal)
-    answer = seat.exchange(line, unread)
+    with seat.at_the_line.alone():
+        answer = seat.exchange(line, unread)
     if unread:
         note_answer(seat, unread, line, answer)
     if not answer.startswith("OK "):

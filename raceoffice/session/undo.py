@@ -27,25 +27,37 @@ def undo(seat: Seat) -> bool:
         raise NotSent(done.why)
     if done.unread and done.what:
         return undo_place(seat, done.unread, done.what)
-    kept = as_kept(done.line)
-    if seat.facts.commands[done.number - 1:done.number] != [kept]:
+    while True:
+        line = line_that_undoes(seat, done)
+        if not seat.is_yes(seat.question("undo", line=as_kept(done.line), by=line)) or not is_meant(seat, line):
+            return seat.not_sent()
+        with seat.as_it_is():
+            # Others may have finished while somebody was asked: then it is asked again.
+            if line_that_undoes(seat, done) == line:
+                return send_leaving(seat, line, done.unread) if done.unread else send_back(seat, line)
+
+
+def line_that_undoes(seat: Seat, done: Done) -> str:
+    """The line that takes back what was done, as it is now; NotSent says why none does."""
+    if seat.facts.commands[done.number - 1:done.number] != [as_kept(done.line)]:
         raise NotSent(remark("undo-gone", line=done.line))
     line = reversal(seat.facts, done.number, seat.history)
     if done.unread and (level := level_entry(seat.facts, done.number)):
         raise NotSent(level)
-    if not seat.is_yes(seat.question("undo", line=kept, by=line)) or not is_meant(seat, line):
-        return seat.not_sent()
-    if not done.unread:
-        return send_back(seat, line)
+    return line
+
+
+def send_leaving(seat: Seat, line: str, unread: Unread) -> bool:
+    """Sends the line by which a boat leaves a place; whether it was taken."""
     # The place is kept again as soon as the boat has left it, whoever looks next.
-    leaving = seat.places.note_leaving(done.unread, line, len(seat.facts.sheet.journal))
+    leaving = seat.places.note_leaving(unread, line, len(seat.facts.sheet.journal))
     is_taken = transmit(seat, line)
     if not is_taken:
         # Somebody else may have struck her just before.
         seat.look()
         if leaving.key in seat.history.ended:
             seat.places.take_back(leaving, "refused")
-    seat.done = Done(why=remark("undo-place", mark=done.unread.mark))
+    seat.done = Done(why=remark("undo-place", mark=unread.mark))
     return is_taken
 
 

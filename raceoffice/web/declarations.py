@@ -3,7 +3,7 @@ from __future__ import annotations
 
 import contextlib
 import os
-from collections.abc import Mapping
+from collections.abc import Callable, Mapping
 from typing import Any
 
 from raceoffice.errors import NotSent, Trouble
@@ -37,10 +37,10 @@ class Unasked(Exception):
 
 
 class Declarations:
-    """The results of one class, as they are declared."""
+    """The results of one class, as they are declared. `holding` names the devices that hold taps."""
 
-    def __init__(self, room: Room, office: KeptOffice) -> None:
-        self.room, self.office, self.folder = room, office, room.folder
+    def __init__(self, room: Room, office: KeptOffice, holding: Callable[[], list[str]] = list) -> None:
+        self.room, self.office, self.folder, self.holding = room, office, room.folder, holding
         self.copies, self.source = CopiesShown(self.folder), ResultsSource(self.folder.path)
 
     def close(self) -> None:
@@ -57,9 +57,14 @@ class Declarations:
         return {"state": notice.state, "reason": notice.reason,
                 "since": int(since.timestamp() * 1000) if since else 0,
                 "is_changed": is_changed_since(logged, notice.state, sheet.table),
-                "open": points_of(announce.open_points(self.folder, sheet, self.room.decisions)),
+                "open": points_of(self.open_points(sheet)),
                 "is_open": is_open, "journal": journal_shown(self.folder, is_open, self.office.warned()),
                 "copies": self.copies.look(self.office.second_trouble()) | sticks_shown(self.folder)}
+
+    def open_points(self, sheet: Sheet) -> list[announce.Open]:
+        """What is open, also on devices that hold taps."""
+        held = self.holding()
+        return [*announce.open_points(self.folder, sheet, self.room.decisions), *([announce.of_unsent(held)] if held else [])]
 
     def sheet(self) -> Sheet:
         """Journal and table: those of the open office as they are shown, or else those of journal.txt."""
@@ -94,7 +99,7 @@ class Declarations:
             raise NotSent(remark("reason-long", most=announce.LONGEST))
         self.look()
         sheet = self.sheet()
-        points = announce.open_points(self.folder, sheet, self.room.decisions) if state != "provisional" else []
+        points = self.open_points(sheet) if state != "provisional" else []
         declared = len(notices(self.folder))
         # A yes is one to this table, and to what was declared when it was given.
         asked = announce.asked_of(state, points, mark_of((*sheet.table, str(declared))))

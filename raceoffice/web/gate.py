@@ -202,6 +202,18 @@ class Gate:
         self.is_heard = True
         return device
 
+    def holding(self, but: str = "") -> list[str]:
+        """The devices that said they hold taps which the office hasn't got, each with how many, as `Ann (2)`; without
+        the one of that mark."""
+        return [f"{device.name} ({device.unsent})" for device in list(self.devices.values())
+                if device.unsent and device.mark != but and self.lets_in(device.mark)]
+
+    @staticmethod
+    def note_answered(request: Request, device: Device) -> None:
+        """A tap that a device counted among those that wait has its answer."""
+        if "x-unsent" in request.fields:
+            device.unsent = max(0, device.unsent - 1)
+
     def note_heard(self) -> None:
         """Writes down when devices were heard, now and then. On a full disk that isn't known, and nothing
         else."""

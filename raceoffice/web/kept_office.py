@@ -21,6 +21,7 @@ from raceoffice.session.dialogue import Question
 from raceoffice.session.question_words import question
 from raceoffice.terminal import sentence
 from raceoffice.traces import guarded
+from raceoffice.web.series_zone import keep_zone
 from raceoffice.web.tap_session import Asked
 
 # Seconds between two looks at an office, and how often one that has gone is opened again by itself within how
@@ -91,6 +92,7 @@ class KeptOffice:
         # They may have been changed since.
         self.folder.settings = settings.read(self.folder.path)
         self.folder.make_private()
+        keep_zone(self.folder, self.say)
         if fault := disk_fault(self.folder):
             self.say(fault)
             return False

@@ -5,13 +5,16 @@ import datetime
 import zoneinfo
 from collections.abc import Iterator
 
+from raceoffice import time_zones
 from raceoffice.corrected.sheets import with_seconds
 from raceoffice.corrected.write_sheet import SheetOfRace
+from raceoffice.files import PRIVATE, text_if_any
 from raceoffice.series.folder import Folder
-from raceoffice.time_zones import changes_of
 from raceoffice.web.taps import Register, Sent, Tap
 
 Zone = datetime.tzinfo | None
+# The file in office/ with the zone of the series, and the most bytes of its name
+ZONE, LONGEST = "zone", 200
 
 
 def starts_given(register: Register, race: int) -> list[Sent]:
@@ -90,7 +93,7 @@ def by_clock_of_start(folder: Folder, register: Register, race: int, sheet: Shee
 
 def clock_shown(folder: Folder) -> list[list[int]]:
     """The clock of the series' zone, for pages: a device may be in another."""
-    return changes_of(zone_of(folder), datetime.datetime.now(datetime.timezone.utc))
+    return time_zones.changes_of(zone_of(folder), datetime.datetime.now(datetime.timezone.utc))
 
 
 def utc(at: int) -> datetime.datetime:
@@ -99,4 +102,11 @@ def utc(at: int) -> datetime.datetime:
 
 def zone_of(folder: Folder) -> Zone:
     """The zone of the series; None for that of this computer."""
-    return zoneinfo.ZoneInfo(folder.settings.zone) if folder.settings.zone else None
+    name = zone_kept(folder) or folder.settings.zone
+    return zoneinfo.ZoneInfo(name) if name else None
+
+
+def zone_kept(folder: Folder) -> str:
+    """The zone by whose clock the races go that are on, as the last opening has noted it; empty if it has none."""
+    name = text_if_any(folder.file(PRIVATE, ZONE), LONGEST)
+    return name if time_zones.is_name(name) else ""

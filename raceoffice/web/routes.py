@@ -20,7 +20,8 @@ from raceoffice.series.entry_list import plain
 from raceoffice.series.folder import Folder
 from raceoffice.session.confirm import questions
 from raceoffice.session.dialogue import Question
-from raceoffice.session.parse import COMMANDS, FIRST, MAY
+from raceoffice.session.parse import COMMANDS, FIRST, MAY, race_number
+from raceoffice.session.question_words import question
 from raceoffice.terminal import sentence
 from raceoffice.traces import guarded
 from raceoffice.web import (boat_names, corrections, new_series, preview, qr, rulings, series_beside, series_settings,
@@ -244,7 +245,7 @@ class Routes:
         return tagged(request, JSON, held[1])
 
     def rulings(self, room: Room) -> Reply:
-        return reply_of(preview.decisions_shown(room.folder, room.facts))
+        return reply_of(preview.decisions_shown(room.folder, room.facts, room.register.known_in(room.facts.sheet.journal)))
 
     def devices(self, mine: Device) -> Reply:
         """The devices that came, and what the offices said."""
@@ -332,10 +333,22 @@ class Routes:
         raise Wrong(404)
 
     def line(self, request: Request, role: str, device: Device, room: Room) -> Reply:
+        """A tap. It waits on its device no longer once it is taken, or can't be."""
+        try:
+            reply = self.tapped(request, role, device, room)
+        except NotSent:
+            self.gate.note_answered(request, device)
+            raise
+        self.gate.note_answered(request, device)
+        return reply
+
+    def tapped(self, request: Request, role: str, device: Device, room: Room) -> Reply:
         tap = tap_of(request.values())
         check_command(tap.line, role)
         if tap.id not in room.register.sent:
             self.gate.refused.check(device.mark)
+            ask_of_series(room, tap)
+            ask_of_unsent(room, tap, self.gate.holding(device.mark))
         done = room.do(role, device.name, tap)
         if is_idle(done):
             self.gate.refused.pause(device.mark)
@@ -553,6 +566,24 @@ def tap_of(values: dict[str, Any]) -> Tap:
     if tap.at > LATEST:
         raise NotSent(remark("no-clock"))
     return tap
+
+
+def ask_of_series(room: Room, tap: Tap) -> None:
+    """Asks about a tap for another series of this name, which a device has held since."""
+    asked = question("another-series", str, line=tap.line, title=room.folder.settings.title)
+    if tap.series and room.identity and tap.series != room.identity and asked not in tap.agreed:
+        raise Asked(asked, [])
+
+
+def ask_of_unsent(room: Room, tap: Tap, holding: list[str]) -> None:
+    """Asks before a race is to count while devices hold taps, which may be of that race: she who was tapped would be DNC."""
+    first, *rest = tap.line.split()
+    race = room.facts.series.races.get(race_number(rest[0])) if len(rest) == 1 else None
+    if not holding or COMMANDS.get(first, first) != "SCORE" or race is None or race.counts:
+        return
+    asked = question("score-unsent", str, race=race.number, devices=holding)
+    if asked not in tap.agreed:
+        raise Asked(asked, [])
 
 
 def is_idle(done: Values) -> bool:

@@ -26,6 +26,7 @@ from raceoffice.session.facts import Facts
 from raceoffice.web import preview
 from raceoffice.web.kept_office import KeptOffice
 from raceoffice.web.new_series import GIVEN, setting_given, wrong_in, wrong_settings
+from raceoffice.web.series_zone import is_other_clock
 from raceoffice.web.states import Values, remarks_of, rules_of
 from raceoffice.web.timed_taps import races_begun
 
@@ -107,7 +108,8 @@ def effect(folder: Folder, facts: Facts, values: Mapping[str, Any]) -> Values:
     before = settings.DEFAULTS | settings.values_of(text)
     if wrong := wrong_settings(before | given):
         return wrong
-    need_no_race(folder, facts, given.get("zone", before["zone"]) != before["zone"])
+    zone = given.get("zone", before["zone"])
+    need_no_race(folder, facts, zone != before["zone"] and is_other_clock(folder, zone))
     wanted, opened = settings.settings_of(before | given), preview.opened_settings(folder)
     found: Values = {"wrong": [], "keys": [], "rules": wanted.in_words(), "settings": rules_of(wanted),
                      "at_once": [key for key in AT_ONCE if given.get(key, before[key]) != before[key]],

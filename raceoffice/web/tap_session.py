@@ -234,7 +234,8 @@ class TapSession(Session):
         """The office's answer to a line, which is noted before it is sent."""
         self.lines += 1
         self.mark = unread.mark if unread else self.mark
-        id = f"{self.tap.id}/{self.lines}" if self.is_of_several else self.tap.id
+        # A boat that was overtaken on the way to her place is put there by lines of their own.
+        id = f"{self.tap.id}/{self.lines}" if self.is_of_several or self.lines > 1 else self.tap.id
         self.note_begin(id, line, unread.mark if unread else "")
         self.answer = super().exchange(line, unread)
         self.register.end(id, self.answer, self.mark)

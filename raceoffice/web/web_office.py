@@ -22,6 +22,7 @@ from raceoffice.web.kept_office import KeptOffice
 from raceoffice.web.live_board import TICK, LiveBoard
 from raceoffice.web.page_news import PageNews
 from raceoffice.web.room import Room
+from raceoffice.wording import count
 
 # Seconds within which pages learn of several pieces of news together, and phones that look at the board.
 AT_ONCE, SOON = 0.02, 0.4
@@ -77,7 +78,7 @@ class WebOffice:
             # A version is never lower than before the web was started again, also if the clock was set back.
             room.version = max(room.version, int(self.gate.clock.now() * 1000))
             office = KeptOffice(folder, lambda text: self.tell_of(folder.name, text))
-            found = Class(room, office, Declarations(room, office))
+            found = Class(room, office, Declarations(room, office, self.gate.holding))
             if not self.classes and not self.gate.path:
                 self.gate.move(folder.file(PRIVATE, "web.json"))
             self.classes = {**self.classes, folder.name: found}
@@ -120,8 +121,8 @@ class WebOffice:
         """The devices that may still write to an office that this process keeps, with their roles."""
         if not any(one.office.keeping for one in self.classes.values()):
             return []
-        return [f"{device.name} ({device.role.lower()})" for device in self.gate.devices.values()
-                if device.heard > self.gate.clock.now() - RECENT]
+        return [f"{device.name} ({device.role.lower()}{taps_held(device.unsent)})" for device in self.gate.devices.values()
+                if device.heard > self.gate.clock.now() - RECENT or device.unsent and self.gate.lets_in(device.mark)]
 
     def close(self) -> None:
         """Closes the offices that this process keeps, side by side, and leaves the others."""
@@ -155,3 +156,8 @@ def gate_of(folders: list[Folder], name: str, is_secure: bool) -> Gate:
         return Gate(path, [name] if name else [], is_secure)
     except OSError as cause:
         raise Trouble(remark("file-unused", name="office/web.json", why=system_remark(cause))) from None
+
+
+def taps_held(number: int) -> str:
+    """How many taps a device holds, after its role; nothing if it holds none."""
+    return f", {count(number, 'tap')} not sent yet" if number else ""

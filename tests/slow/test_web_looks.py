@@ -358,7 +358,7 @@ OF_REMARKS: dict[str, RemarkValue] = {
     "boats": "300 boats", "entries": "8192 entries", "rules": "RRS A5.2", "since": "13:00", "process": "12345", "path": "/media/ann",
     "held": 12, "others": "101?", "numbers": "12\u201314", "had": 12, "more": 2, "entry": 12,
     "places": ["?1 in race 3", "?1 in race 4"], "was": "15:07:31", "address": "http://10.0.0.5:8080/",
-    "rule": "A8.1", "roundings": ["half-up", "down"]}
+    "rule": "A8.1", "zone": "Europe/Lisbon", "roundings": ["half-up", "down"]}
 PLACED: dict[str, RemarkValue] = {"name": "series.ini", "line": 12}
 # Remarks that are alike in some languages
 ALIKE = {"office-summary", "journal-in-file", "takes-limit", "wanted-handicap", "wanted-absent", "wanted-state", "key-club", "key-rating"}

@@ -106,7 +106,10 @@ export function linksPage() {
 // Offices
 
 async function closeOffice(name) {
-  const done = await choose(withClass(text("office.closeQuestion"), name), text("office.closeMeans"),
+  const held = (known.devices?.devices ?? []).filter(one => one.unsent);
+  const inside = [element("p", {}, text("office.closeMeans")),
+    ...held.map(one => element("p", {class: "wrong"}, `${one.name}: ${text("links.losesUnsent", {n: one.unsent})}`))];
+  const done = await choose(withClass(text("office.closeQuestion"), name), inside,
     [{value: "", label: text("common.no")}, {value: "yes", label: text("office.closeIt"), look: "bad"}]);
   if (done !== "yes") return;
   await ask(addressOf("close", name), {}, CLOSING);

@@ -52,6 +52,8 @@ function pointWords({kind, values, text: english, remarks = {}}) {
     case "finishers-unknown":
       return text("results.finishersUnknown", {n: values.marks.length,
         marks: values.marks.map((mark, at) => text("results.markInRace", {mark, race: values.races[at]}))});
+    case "taps-unsent":
+      return text("results.tapsUnsent", values);
     case "places-unread":
       return text("results.placesUnread", remarks.fault ? {fault: valueWords("fault", remarks.fault)} : values);
     case "decision-stale":
