@@ -5,13 +5,14 @@ import contextlib
 import copy
 import os
 import re
+import secrets
 import threading
 import time
 from collections.abc import Callable, Sequence
 
 from raceoffice import system
 from raceoffice.errors import NoSeat, NotSent, Served, Trouble, as_trouble
-from raceoffice.files import PRIVATE, PRIVATE_MODE, text_if_any
+from raceoffice.files import PRIVATE, PRIVATE_MODE, replace_whole, text_if_any
 from raceoffice.program.journal import Race
 from raceoffice.program.link import Link, Sheet
 from raceoffice.program.standing import Standing
@@ -41,6 +42,8 @@ LOOK, AGAIN, LATER = 0.1, 1.0, 5.0
 PATIENCE = 5.0
 # Entries of the journal that are shown.
 SHOWN = 60
+# Hexadecimal digits of what tells a series from another of its name.
+IDENTITY = 32
 ADDRESS = re.compile("https?://[A-Za-z0-9.:_-]+/")
 
 
@@ -63,6 +66,7 @@ class Room:
         self.reader: Link | None = None
         # Links with a line that the office may still take.
         self.late: list[Link] = []
+        self.identity = identity_of(folder)
         self.facts, self.decisions, self.files = Facts(folder), DecisionsNow(folder), self.files_now()
         self.places, self.history = Places(folder), History()
         self.places_seen: object = None
@@ -135,7 +139,7 @@ class Room:
         """All that a page shows of the class; the finish doesn't need the whole."""
         facts, settings = self.facts, self.folder.settings
         found: Values = {
-            "class": self.folder.name, "title": settings.title, "group": settings.group,
+            "class": self.folder.name, "series": self.identity, "title": settings.title, "group": settings.group,
             "version": self.version, "entries": len(facts.sheet.journal), "trouble": self.trouble,
             "handicap": settings.handicap, "zone": clock_shown(self.folder), "rules": settings.in_words(), "settings": rules_of(settings),
             "boats": boats_of(facts), "races": self.races(facts)}
@@ -509,3 +513,17 @@ def outcome_of(sent: Sent, is_again: bool, journal: Sequence[str] = ()) -> Value
     entry = number_of(sent, journal) if sent.own and journal else sent.entry
     return {"outcome": outcome, "answer": sent.answer, "line": sent.line, "entry": entry,
             "mark": sent.mark, "said": said_of(said), "again": is_again}
+
+
+def identity_of(folder: Folder) -> str:
+    """What tells a series from another that has its name, as next week's cup: made once, and kept with the folder, also
+    with a copy of it. Empty if there is no room for it."""
+    path = folder.file(PRIVATE, "series")
+    found = text_if_any(path, IDENTITY).strip()
+    if not re.fullmatch(f"[0-9a-f]{{{IDENTITY}}}", found):
+        found = secrets.token_hex(IDENTITY // 2)
+        try:
+            replace_whole(path, found.encode())
+        except Trouble:
+            return ""
+    return found

@@ -347,6 +347,7 @@ class Routes:
         check_command(tap.line, role)
         if tap.id not in room.register.sent:
             self.gate.refused.check(device.mark)
+            ask_of_series(room, tap)
             ask_of_unsent(room, tap, self.gate.holding(device.mark))
         done = room.do(role, device.name, tap)
         if is_idle(done):
@@ -565,6 +566,13 @@ def tap_of(values: dict[str, Any]) -> Tap:
     if tap.at > LATEST:
         raise NotSent(remark("no-clock"))
     return tap
+
+
+def ask_of_series(room: Room, tap: Tap) -> None:
+    """Asks about a tap for another series of this name, which a device has held since."""
+    asked = question("another-series", str, line=tap.line, title=room.folder.settings.title)
+    if tap.series and room.identity and tap.series != room.identity and asked not in tap.agreed:
+        raise Asked(asked, [])
 
 
 def ask_of_unsent(room: Room, tap: Tap, holding: list[str]) -> None:
