@@ -51,10 +51,10 @@ class Device:
     """One device: a context of its own in the browser."""
 
     def __init__(self, chromium: Chromium, width: int, height: int, scale: float = 1, touch: bool = False,
-                 dark: bool = False, language: str = "en") -> None:
+                 dark: bool = False, language: str = "en", context: str = "") -> None:
         self.chromium = chromium
         chromium.session = ""
-        self.context = chromium.ask("Target.createBrowserContext")["browserContextId"]
+        self.context: str = context or chromium.ask("Target.createBrowserContext")["browserContextId"]
         self.target = chromium.ask("Target.createTarget", url="about:blank",
                                    browserContextId=self.context)["targetId"]
         self.session = chromium.ask("Target.attachToTarget", targetId=self.target, flatten=True)["sessionId"]
@@ -67,6 +67,10 @@ class Device:
         self.ask("Emulation.setFocusEmulationEnabled", enabled=True)
         self.resize(width, height, scale, touch)
         self.colours(dark)
+
+    def tab(self) -> Device:
+        """Another tab of this device."""
+        return Device(self.chromium, 390, 844, touch=True, context=self.context)
 
     def close(self) -> None:
         """Throws the device away, with all that it remembers."""

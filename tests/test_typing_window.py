@@ -495,8 +495,8 @@ Race 1 is taken away: 3 lines, all taken.
 To take race 1 away 3 lines are sent:
     STRIKE 1 GBR101
     STRIKE 1 NED12
-    CLEAR 1 IRL5
-  ZFP and BFD stay (RRS 30.2, 30.4): NED 12 Windhover
+    CLEAR 1 IRL5 (RET)
+  ZFP and BFD stay (RRS 30.2, 30.4): NED 12 Windhover ZFP
   If the race is resailed under a new number: type them there, and clear them here
    Send them? [y/N]
 > y

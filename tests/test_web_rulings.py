@@ -60,9 +60,9 @@ class Rulings(Web):
             agreed.append(found[1]["question"])
         return found[1]
 
-    def ruled(self, name: str, line: str, out: bool = False) -> list[str]:
+    def ruled(self, name: str, line: str, out: bool = False, reopen: bool = False) -> list[str]:
         """Decides as the page does; the lines that were taken. `refused` if it can't be given."""
-        jury, given, agreed = self.devices["JURY"], {"line": line, "out": out}, list[Any]()
+        jury, given, agreed = self.devices["JURY"], {"line": line, "out": out, "reopen": reopen}, list[Any]()
         shown = self.in_time(jury, f"/office/jury/ruling/{name}", given)[1]
         if shown.get("why") or "refused" in shown or "said" in shown:
             return ["refused"]
@@ -110,6 +110,73 @@ class Rulings(Web):
                 self.assertEqual(self.shown(name), before[name], (name, sail, first, second))
             self.assertEqual(self.sheet(), sheet)
         self.assertEqual(self.yes("SCORER", "TIMES 1", "hcap")["outcome"], "noted")
+
+    def test_taken_back(self) -> None:
+        """One thing that a boat holds is taken back, and all else stays, whoever gave it and in decisions.txt or not: that
+        is taken out later as if nothing had been between."""
+        self.sail_races()
+        cases: list[tuple[str, str, list[str], str, list[str], str]] = [
+            ("GBR1", "NSC", ["REDRESS 1 GBR1 2.0"], "RDG", ["JURY CLEAR 1 GBR1", "SCORER MARK 1 GBR1 DNF"], "DNF"),
+            ("GBR2", "DPI 2", [], "ZFP", ["JURY CLEAR 1 GBR2", "JURY REDRESS 1 GBR2"], "RDG"),
+            ("GBR4", "", ["MARK 1 GBR4 DSQ"], "DSQ", ["JURY CLEAR 1 GBR4", "SCORER MARK 1 GBR4 DNF"], "DNF"),
+            ("GBR7", "", ["PENALTY 1 GBR7 ZFP", "MARK 1 GBR7 DSQ"], "ZFP",
+             ["JURY CLEAR 1 GBR7", "FINISH MARK 1 GBR7 RET", "JURY MARK 1 GBR7 DSQ"], "DSQ")]
+        for name in self.words:
+            for sail, first, given, code, lines, left in cases:
+                if first:
+                    self.assertNotEqual(self.ruled(name, f"race 1 {sail} {first}"), ["refused"])
+                for line in given:
+                    self.assertEqual(self.yes("JURY", line, name)["outcome"], "taken", line)
+                kept = self.text(name, "decisions.txt")
+                found = self.ruled(name, f"race 1 {sail} {code}", reopen=True)
+                self.assertEqual([line[:len(one)] for line, one in zip(found, lines)], lines, (name, sail, found))
+                race = self.shown(name)
+                held = [race["codes"].get(sail, ""), *race["penalties"].get(sail, []), "RDG" if sail in race["redress"] else ""]
+                self.assertEqual((" ".join(filter(None, held)), self.text(name, "decisions.txt")), (left, kept), (name, sail))
+                self.assertEqual(self.ruled(name, f"race 1 {sail} {code}", reopen=True), ["refused"])
+            self.assertEqual(self.ruled(name, "race 1 GBR7 DSQ", reopen=True)[1:], ["FINISH MARK 1 GBR7 RET"])
+            for sail, row in (("GBR1", "NSC"), ("GBR2", "DPI 2")):
+                self.assertEqual(self.ruled(name, f"race 1 {sail} {row}", True), [f"JURY CLEAR 1 {sail}"], (name, row))
+            self.assertEqual(self.text(name, "decisions.txt").strip(), "")
+
+    def test_whose_points(self) -> None:
+        """The state says of each decision whether the redress that she holds is its own."""
+        self.sail_races()
+        for sail, ruling in (("GBR1", "NSC"), ("GBR2", "DPI 2"), ("GBR5", "TLE 5")):
+            self.ruled("cup", f"race 1 {sail} {ruling}")
+        state = self.devices["SCORER"].state
+        self.assertEqual([one["redress"] for one in state("cup")["decisions"]], [False, True, True])
+        for line in ("REDRESS 1 GBR1 2.0", "CLEAR 1 GBR2", "REDRESS 1 GBR2 2.0"):
+            self.assertEqual(self.yes("JURY", line, "cup")["outcome"], "taken", line)
+        self.assertEqual([one["redress"] for one in state("cup")["decisions"]], [False, False, True])
+
+    def test_taken_out_again(self) -> None:
+        """The answer to a take-out is lost, and another device decides the same anew: the first one's, sent again, gets its
+        answer, and the row and the points of the other stay. So it is if the web has died before it noted that the row was
+        taken out, and with a decision that takes no lines."""
+        self.sail_races()
+        for row, is_cut in (("race 1 GBR1 DPI 1", False), ("race 1 GBR1 DPI 1", True), ("race 1 GBR4 NSC", False)):
+            self.ruled("cup", row)
+            jury, given, id = self.devices["JURY"], {"line": row, "out": True}, new_id()
+            shown = self.in_time(jury, "/office/jury/ruling/cup", given)[1]
+            request = {**given, "lines": shown["lines"], "tag": shown["tag"], "id": id,
+                       "agreed": [{"kind": "correction", "values": {"race": 1}}]}
+            status, before = self.in_time(jury, "/office/jury/decide/cup", request)
+            self.assertEqual((status, self.text("cup", "decisions.txt").strip()), (200, ""), before)
+            self.ruled("cup", row)
+            if is_cut:
+                self.kill()
+                kept = [line for line in self.text("cup", "office", "web.taps").splitlines() if f"{id}/written" not in line]
+                self.write("\n".join(kept) + "\n", "cup", "office", "web.taps")
+                self.serve()
+                self.devices = {role: device.again() for role, device in self.devices.items()}
+            journal = self.journal("cup")
+            status, after = self.in_time(self.devices["JURY"], "/office/jury/decide/cup", request)
+            lines = [[{**one, "again": True} for one in found["done"]] for found in (after, before)]
+            self.assertEqual((status, lines[0]), (200, lines[1]), after)
+            self.assertEqual((self.text("cup", "decisions.txt").strip(), self.journal("cup")), (row, journal))
+            self.assertEqual(self.devices["SCORER"].state("cup")["decisions"][0]["kept"], True)
+            self.ruled("cup", row, True)
 
     def test_points(self) -> None:
         """Of 9 boats one that doesn't finish has 10 points, and in race 1 under RRS A5.3 8 came: 9."""

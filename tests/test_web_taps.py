@@ -8,6 +8,7 @@ import http.client
 import json
 import os
 import random
+import shutil
 import tempfile
 import threading
 import time
@@ -23,7 +24,7 @@ from raceoffice.program.replay import Line
 from raceoffice.series.folder import Folder
 from raceoffice.web import taps
 from raceoffice.web.gate import Gate
-from raceoffice.web.room import held_alone, outcome_of
+from raceoffice.web.room import held_alone, identity_of, outcome_of
 from raceoffice.web.tap_session import TapSession
 from raceoffice.web.taps import Register, Sent, Tap, last_numbers, number_of
 from web_devices import BOATS, SAILS, Device, Web, list_of, new_id
@@ -67,6 +68,31 @@ class Once(Web):
         agreed = [{"kind": said["question"]["kind"], "values": said["question"]["values"]}]
         self.assertEqual(scorer.tap("penalty 1 gbr7 zfp", seen=seen, agreed=agreed)[1]["outcome"], "taken")
         self.assertEqual(scorer.tap("penalty 1 gbr7 zfp", seen=seen + 2)[1]["outcome"], "taken")
+
+    def test_another_series(self) -> None:
+        """A tap that a device has held since another series had this name is asked about. A series keeps what it is known
+        by: when it is served again, under another name, and as a copy."""
+        finish = self.device("finish")
+        first = finish.state()["series"]
+        self.assertEqual(finish.tap("FINISH 1 GBR101", series=first)[1]["outcome"], "taken")
+        self.close()
+        shutil.copytree(os.path.join(self.here, "cup"), os.path.join(self.here, "copy"), symlinks=True)
+        os.rename(os.path.join(self.here, "cup"), os.path.join(self.here, "last week"))
+        self.make("cup", list_of(BOATS), title="Next Cup")
+        self.serve()
+        finish = self.device("finish")
+        self.assertNotEqual(finish.state()["series"], first)
+        status, said = finish.tap("FINISH 1 GBR7", series=first)
+        self.assertEqual((status, said["question"]["kind"], said["question"]["values"]),
+                         (409, "another-series", {"line": "FINISH 1 GBR7", "title": "Next Cup"}))
+        self.assertEqual(self.journal(), [])
+        self.assertEqual(finish.tap("FINISH 1 GBR7", series=first, agreed=[said["question"]])[0], 200)
+        self.assertEqual(finish.tap("FINISH 1 FRA9", series=finish.state()["series"])[0], 200)
+        self.assertEqual(finish.tap("FINISH 1 NED12")[0], 200)
+        for odd in ("x", 7, ["x"]):
+            self.assertEqual(finish.tap("FINISH 1 IRL5", series=odd)[0], 400, odd)
+        for name in ("last week", "copy"):
+            self.assertEqual(identity_of(Folder(os.path.join(self.here, name))), first)
 
     def test_questions(self) -> None:
         """What the typing window asks comes back as a kind with values, and a yes to just that is a yes. Words
@@ -193,6 +219,23 @@ OK 13
                       and finish.state()["races"]["1"]["unread"])
         self.assertEqual(finish.state()["races"]["1"]["order"], [["GBR101"]])
         self.assertEqual(finish.tap("?1 1 GBR7")[1]["line"], "FINISH 1 GBR7")
+
+
+class Closing(unittest.TestCase):
+    def test_no_note(self) -> None:
+        """A folder or a pipe in place of the note of closing closes no office."""
+        with tempfile.TemporaryDirectory() as path:
+            with open(os.path.join(path, "series.ini"), "w", encoding="utf-8") as file:
+                file.write("[series]\ntitle = Cup\n")
+            folder = Folder(path)
+            folder.make_private()
+            note = folder.file("office", "closing")
+            for make, remove in ((os.mkdir, os.rmdir), (os.mkfifo, os.remove)):
+                make(note)
+                self.assertFalse(folder.is_closing())
+                remove(note)
+            folder.set_closing(True)
+            self.assertTrue(folder.is_closing())
 
 
 class Damaged(unittest.TestCase):

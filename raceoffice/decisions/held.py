@@ -96,6 +96,24 @@ def restored(race: int, sail: str, held: Holding) -> list[Line]:
     return code + [Line(role, f"PENALTY {race} {sail} {kind}") for kind, role in held.penalties]
 
 
+def without_one(race: int, sail: str, code: str, held: Holding) -> list[Line]:
+    """The lines after which a boat holds all but one thing: DSQ or DNE, which gives back what it has replaced, one of her
+    penalties, or her redress (`RDG`). None if she doesn't hold it."""
+    kept = Holding(held.code, held.role, held.before, list(held.penalties), held.redress)
+    given = next((one for one in reversed(held.penalties) if one[0] == code), None)
+    if code == "RDG" and held.redress:
+        kept.redress = ""
+    elif code in OF_JURY and code == held.code:
+        kept.code, kept.role, kept.before = *held.before, ("", "")
+    elif given:
+        kept.penalties.remove(given)
+    else:
+        return []
+    replaced = [marked(race, sail, *kept.before)] if kept.before[0] else []
+    redress = [Line("JURY", f"REDRESS {race} {sail} {kept.redress}")] if kept.redress else []
+    return [cleared(race, sail), *replaced, *restored(race, sail, kept), *redress]
+
+
 def reinstated(race: int, sail: str, held: Holding) -> list[Line]:
     """The lines that take away what the jury gave her, and leave what the committee did."""
     if not held.is_of_jury:

@@ -178,6 +178,14 @@ def beneath(ruling: Ruling, journal: Sequence[str], known: Known) -> Holding:
     return kept
 
 
+def held_by(ruling: Ruling, journal: Sequence[str], known: Known) -> list[str]:
+    """What a boat holds by a decision: `REDRESS`, its points, and `MARK`, the DNF of TLE or NSC. What another line is known to
+    have given her since isn't the decision's."""
+    held, last = holdings(journal)[ruling.key], {entry.split()[3]: entry for entry in about(journal, *ruling.key)}
+    has = {"REDRESS": held.is_points and ruling.kind not in ("NSC", "REINSTATE"), "MARK": held.code == "DNF" and ruling.kind in OUT}
+    return [command for command, is_held in has.items() if is_held and last[command] not in known.of_others]
+
+
 def verdict(ruling: Ruling, held: Holding, figures: Figures) -> Verdict:
     """What a decision comes to, beside what the journal holds."""
     wanted, why = figures.points.get(ruling, ""), figures.why.get(ruling)

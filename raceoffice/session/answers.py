@@ -4,7 +4,7 @@ from __future__ import annotations
 from typing import Union
 
 from raceoffice.corrected.unsent import in_sheet
-from raceoffice.program.journal import Plan, Race
+from raceoffice.program.journal import STAYING, Plan, Race
 from raceoffice.program.messages import ROLES, move_values, rank_of
 from raceoffice.program.standing import Standing, changes
 from raceoffice.series.race_sheets import sheet_name
@@ -117,15 +117,27 @@ def standing_lines(facts: Facts) -> list[str]:
             for row in facts.standing.rows]
 
 
+def codes_of(race: Race, sail: str) -> list[str]:
+    """What a boat holds in a race, in codes."""
+    return [held.replace("redress", "RDG") for held in race.held(sail)]
+
+
+def with_codes(race: Race, line: str) -> str:
+    """A line of a plan, and what it takes from a boat beside her place."""
+    return f"{line} ({', '.join(codes_of(race, line.split()[2]))})" if line.startswith("CLEAR ") else line
+
+
 def plan_said(facts: Facts, race: Race, plan: Plan, kept: list[str], prefix: str) -> list[Said]:
     """How a race is taken away; `kept` are the finishers without a sail whose places go with it."""
     def shown(what: str, **values: str | int | list[str]) -> Said:
         return said(what, SHOWN, facts.called, prefix, **values)
-    found = [shown("plan", race=race.number, lines=plan.lines), *(Said(f"    {line}", SHOWN) for line in plan.lines)]
+    found = [shown("plan", race=race.number, lines=plan.lines),
+             *(Said(f"    {with_codes(race, line)}", SHOWN) for line in plan.lines)]
     if kept:
         found.append(shown("plan-places", marks=kept))
     if plan.stays:
-        found += [shown("plan-stays", sails=plan.stays), shown("plan-resailed")]
+        stays = [[sail, *(code for code in codes_of(race, sail) if code in STAYING)] for sail in plan.stays]
+        found += [shown("plan-stays", sails=list(map(" ".join, stays))), shown("plan-resailed")]
     if plan.jury:
-        found.append(shown("plan-jury", sails=plan.jury))
+        found.append(shown("plan-jury", sails=[" ".join([sail, *codes_of(race, sail)]) for sail in plan.jury]))
     return found

@@ -77,6 +77,11 @@ def of_unknown(words: Words) -> str:
     return f"{joined(kept)}: {who} without a sail would be left out. Score it all the same?"
 
 
+def of_another_series(words: Words) -> str:
+    """A tap that a device has held since another series had this name."""
+    return f"{words.text('line')} was tapped for another series. Record it in {words.text('title')} all the same?"
+
+
 def of_unsent(words: Words) -> str:
     """Devices that hold taps, each with how many."""
     return f"Taps that the office hasn't got wait on {joined(words.all('devices'))}. Score race {words.text('race')} all the same?"
@@ -180,6 +185,11 @@ def of_start(words: Words) -> str:
             "place?")
 
 
+def of_old_start(words: Words) -> str:
+    """A start that was tapped before the race was abandoned, and that comes later."""
+    return f"Race {words.text('race')} has been abandoned since. Is {words.text('written')} its start all the same?"
+
+
 def of_others(words: Words) -> str:
     """Others were recorded after a finisher was seen, and before she was."""
     others, sail = words.boats("others"), words.boat()
@@ -236,7 +246,8 @@ WORDS: dict[str, Callable[[Words], str]] = {
     "drop-place": of_dropping, "keep-place-again": of_keeping,
     # Only pages ask these.
     "sent-already": of_same_line, "others-recorded": of_others, "tapped-too": of_tapped_too,
-    "start-since": of_start, "score-unsent": of_unsent,
+    "start-since": of_start, "start-abandoned": of_old_start, "score-unsent": of_unsent,
+    "another-series": of_another_series,
     # Before an office is opened.
     "use-copy": of_copy, "not-continued": of_difference, "new-rules": of_rules,
     "take-over": of_taking_over, "remove-boat": of_removal,

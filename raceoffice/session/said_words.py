@@ -17,6 +17,10 @@ class SaidWords(Words):
         super().__init__(called, values)
         self.prefix = prefix
 
+    def holders(self, name: str) -> list[str]:
+        """Boats, each with what she holds."""
+        return [" ".join([self.called(sail), *held]) for sail, *held in map(str.split, self.all(name))]
+
     def number(self, name: str) -> int:
         value = self.values[name]
         return value if isinstance(value, int) else 0
@@ -183,7 +187,7 @@ def of_plan_places(words: SaidWords) -> str:
 
 
 def of_plan_stays(words: SaidWords) -> str:
-    return f"  ZFP and BFD stay (RRS 30.2, 30.4): {', '.join(words.boats('sails'))}"
+    return f"  ZFP and BFD stay (RRS 30.2, 30.4): {', '.join(words.holders('sails'))}"
 
 
 def of_resailing(_: SaidWords) -> str:
@@ -191,7 +195,7 @@ def of_resailing(_: SaidWords) -> str:
 
 
 def of_plan_jury(words: SaidWords) -> str:
-    return f"  What the jury decided stays (RRS 36): {', '.join(words.boats('sails'))}"
+    return f"  What the jury decided stays (RRS 36): {', '.join(words.holders('sails'))}"
 
 
 def of_taken_away(words: SaidWords) -> str:

@@ -11,8 +11,8 @@ from dataclasses import dataclass
 
 from raceoffice.characters import utf8
 from raceoffice.decisions import decision_lines
-from raceoffice.decisions.held import Known
-from raceoffice.decisions.points import OUT, Decided, Verdict, decided, taken_out
+from raceoffice.decisions.held import Known, holdings, without_one
+from raceoffice.decisions.points import OUT, Decided, Verdict, decided, held_by, taken_out
 from raceoffice.errors import NotSent, Trouble
 from raceoffice.files import replace_whole
 from raceoffice.program.replay import Line, scored
@@ -28,6 +28,8 @@ from raceoffice.web.states import Values, moves_of, remarks_of, rows_of
 # The line of decisions.txt that something is wrong with, and the most letters of a note.
 LINE = re.compile(r"^decisions\.txt, line (\d+): ")
 NOTE = 200
+# What is taken back of a boat
+HELD = re.compile(r"race ([0-9]{1,3}) (\S+) ([A-Z]{3})")
 CHANGED = remark("decisions-changed")
 # The entries that are of decisions, and those of other taps, as the register knows them.
 Entries = tuple[frozenset[str], frozenset[str]]
@@ -123,6 +125,11 @@ def lines_before(text: str, ruling: str, facts: Facts, known: Entries) -> list[L
     return taken_out(old, facts.sheet.journal, Known(*known)) if old.kind in OUT and new.kind not in OUT else []
 
 
+def about(row: str) -> set[str]:
+    """The boat that a row of decisions.txt is about, with her race, as `GBR7 3`; nothing if it can't be read."""
+    return {f"{one.sail} {one.race}" for one in decision_lines.rulings_of(row)[0]}
+
+
 def take_out(folder: Folder, facts: Facts, row: str, known: Entries = NO_ENTRIES, is_begun: bool = False) -> Ruled:
     """What it takes to take a row out of decisions.txt. One that can't be read has no lines in the journal. If it
     `is_begun`, the row may have gone already."""
@@ -132,6 +139,23 @@ def take_out(folder: Folder, facts: Facts, row: str, known: Entries = NO_ENTRIES
     ruling = next(iter(decision_lines.rulings_of(row)[0]), None)
     lines = taken_out(ruling, facts.sheet.journal, Known(*known)) if ruling else []
     return Ruled(before, without_row(before, row), row, {}, tuple(lines), ())
+
+
+def reopened(folder: Folder, facts: Facts, given: str, known: Entries = NO_ENTRIES) -> Ruled:
+    """What it takes to take back one thing that a boat holds, as `race 1 GBR7 DSQ`: all else that she holds stays, and so does
+    decisions.txt. What her decision there comes to then is among the lines. NotSent if she doesn't hold it."""
+    before, journal, words = decision_lines.read(folder.path), facts.sheet.journal, HELD.fullmatch(given)
+    race, sail, code = (int(words[1]), words[2], words[3]) if words else (0, "", "")
+    lines = without_one(race, sail, code, holdings(journal)[race, sail])
+    if not lines:
+        raise NotSent(remark("decision-gone"))
+    options = options_of(folder)
+    after = scored(folder.program, options, journal, lines).journal
+    found = decided(folder.program, options, after, before).verdict(race, sail) if before.strip() else None
+    due = found.lines if found else ()
+    own = held_by(found.ruling, journal, Known(*known)) if found else []
+    commands = sorted({*own, *(line.text.split()[0] for line in due)} - {"CLEAR"})
+    return Ruled(before, before, given, {}, (*lines, *due), (), " ".join([str(race), sail, *commands]))
 
 
 def has_row(text: str, row: str) -> bool:
@@ -177,18 +201,20 @@ def keep_decisions(folder: Folder, found: Ruled) -> None:
         replace_whole(folder.file(decision_lines.NAME), utf8(found.text))
 
 
-def decisions_shown(folder: Folder, facts: Facts) -> list[Values]:
+def decisions_shown(folder: Folder, facts: Facts, known: Entries) -> list[Values]:
     """The decisions of the class, and what each comes to now."""
-    text = decision_lines.read(folder.path)
-    return decided_shown(decided(folder.program, options_of(folder), facts.sheet.journal, text)) if text.strip() else []
+    text, journal = decision_lines.read(folder.path), facts.sheet.journal
+    return decided_shown(decided(folder.program, options_of(folder), journal, text), journal, known) if text.strip() else []
 
 
-def decided_shown(found: Decided) -> list[Values]:
-    """Decisions with what each comes to, and what of their file can't be read."""
+def decided_shown(found: Decided, journal: Sequence[str], known: Entries = NO_ENTRIES) -> list[Values]:
+    """Decisions with what each comes to, whether a boat's redress is of her decision (`redress`), and what of their file
+    can't be read."""
     shown, rows = [], lines_of(found.text)
     for verdict in found.verdicts:
         row = rows[verdict.ruling.line - 1].strip()
-        shown.append(verdict_shown(verdict, row.partition("#")[2].strip()) | {"row": row})
+        shown.append(verdict_shown(verdict, row.partition("#")[2].strip())
+                     | {"row": row, "redress": "REDRESS" in held_by(verdict.ruling, journal, Known(*known))})
     return shown + [wrong_shown(wrong) | {"row": row_of(wrong, rows)} for wrong in found.wrong]
 
 

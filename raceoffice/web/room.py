@@ -5,13 +5,14 @@ import contextlib
 import copy
 import os
 import re
+import secrets
 import threading
 import time
 from collections.abc import Callable, Sequence
 
 from raceoffice import system
 from raceoffice.errors import NoSeat, NotSent, Served, Trouble, as_trouble
-from raceoffice.files import PRIVATE, PRIVATE_MODE, text_if_any
+from raceoffice.files import PRIVATE, PRIVATE_MODE, replace_whole, text_if_any
 from raceoffice.program.journal import Race
 from raceoffice.program.link import Link, Sheet
 from raceoffice.program.standing import Standing
@@ -25,7 +26,7 @@ from raceoffice.session.question_words import question
 from raceoffice.session.undo import later_entry
 from raceoffice.traces import guarded
 from raceoffice.web.finish_order import Moments, later_in_order, line_in_order, without_place
-from raceoffice.web.preview import decided_shown
+from raceoffice.web.preview import NO_ENTRIES, decided_shown
 from raceoffice.web.race_start import clock_shown
 from raceoffice.web.sheet_waits import with_reasons
 from raceoffice.web.states import (Values, boats_of, moves_of, races_of, rules_of, said_of, standing_of, unlisted)
@@ -41,6 +42,8 @@ LOOK, AGAIN, LATER = 0.1, 1.0, 5.0
 PATIENCE = 5.0
 # Entries of the journal that are shown.
 SHOWN = 60
+# Hexadecimal digits of what tells a series from another of its name.
+IDENTITY = 32
 ADDRESS = re.compile("https?://[A-Za-z0-9.:_-]+/")
 
 
@@ -63,6 +66,7 @@ class Room:
         self.reader: Link | None = None
         # Links with a line that the office may still take.
         self.late: list[Link] = []
+        self.identity = identity_of(folder)
         self.facts, self.decisions, self.files = Facts(folder), DecisionsNow(folder), self.files_now()
         self.places, self.history = Places(folder), History()
         self.places_seen: object = None
@@ -135,7 +139,7 @@ class Room:
         """All that a page shows of the class; the finish doesn't need the whole."""
         facts, settings = self.facts, self.folder.settings
         found: Values = {
-            "class": self.folder.name, "title": settings.title, "group": settings.group,
+            "class": self.folder.name, "series": self.identity, "title": settings.title, "group": settings.group,
             "version": self.version, "entries": len(facts.sheet.journal), "trouble": self.trouble,
             "handicap": settings.handicap, "zone": clock_shown(self.folder), "rules": settings.in_words(), "settings": rules_of(settings),
             "boats": boats_of(facts), "races": self.races(facts)}
@@ -143,8 +147,13 @@ class Room:
             found |= {"standing": standing_of(facts.standing), "last": self.last,
                       "unlisted": unlisted(facts), "journal": facts.sheet.journal[-SHOWN:],
                       "unfinished": self.register.unfinished(facts.sheet.journal),
-                      "decisions": decided_shown(self.decisions.look(facts.sheet))}
+                      "decisions": self.decisions_now(facts)}
         return found
+
+    def decisions_now(self, facts: Facts) -> list[Values]:
+        """The decisions of the class, and what each comes to."""
+        found, journal = self.decisions.look(facts.sheet), facts.sheet.journal
+        return decided_shown(found, journal, self.register.known_in(journal) if found.verdicts else NO_ENTRIES)
 
     def races(self, facts: Facts) -> Values:
         """The races of which anything is recorded, with their sheets of times if the class has some."""
@@ -504,3 +513,17 @@ def outcome_of(sent: Sent, is_again: bool, journal: Sequence[str] = ()) -> Value
     entry = number_of(sent, journal) if sent.own and journal else sent.entry
     return {"outcome": outcome, "answer": sent.answer, "line": sent.line, "entry": entry,
             "mark": sent.mark, "said": said_of(said), "again": is_again}
+
+
+def identity_of(folder: Folder) -> str:
+    """What tells a series from another that has its name, as next week's cup: made once, and kept with the folder, also
+    with a copy of it. Empty if there is no room for it."""
+    path = folder.file(PRIVATE, "series")
+    found = text_if_any(path, IDENTITY).strip()
+    if not re.fullmatch(f"[0-9a-f]{{{IDENTITY}}}", found):
+        found = secrets.token_hex(IDENTITY // 2)
+        try:
+            replace_whole(path, found.encode())
+        except Trouble:
+            return ""
+    return found

@@ -7,6 +7,7 @@ out is in it until its last line was taken: so it is in the jury's list until al
 from __future__ import annotations
 
 from collections.abc import Mapping, Sequence
+from dataclasses import replace
 from typing import Any
 
 from raceoffice.errors import NotSent
@@ -14,6 +15,7 @@ from raceoffice.program.replay import Line
 from raceoffice.remarks import remark
 from raceoffice.session.confirm import questions
 from raceoffice.session.dialogue import Question
+from raceoffice.session.question_words import question
 from raceoffice.web import preview
 from raceoffice.web.requests import Wrong
 from raceoffice.web.room import Room
@@ -24,8 +26,11 @@ from raceoffice.web.taps import NoTap, Tap, part_id
 
 
 def ruled(room: Room, values: Mapping[str, Any], is_begun: bool = False) -> preview.Ruled:
-    """The decision that a request gives, with its note, or the row of one that it takes out."""
+    """The decision that a request gives, with its note, or the row of one that it takes out, or what it takes back of a boat
+    (`reopen`)."""
     known = room.register.known_in(room.facts.sheet.journal)
+    if values.get("reopen") is True:
+        return preview.reopened(room.folder, room.facts, one_line(values, "line"), known)
     if values.get("out") is True:
         return preview.take_out(room.folder, room.facts, str(values.get("line", "")).strip(), known, is_begun)
     note = preview.note_of(str(values.get("note", "")))
@@ -67,18 +72,40 @@ class Decision:
         lines: Sequence[Line] | None = self.room.register.decisions.get(self.tap.id)
         if lines is None:
             lines = self.begun()
-        elif not self.is_out and self.room.done(part_of(self.tap, 0)) is None:
+        elif not self.is_out and not self.is_written and self.room.done(part_of(self.tap, 0)) is None:
             # A crash may have come before it was kept.
             self.keep(ruled(self.room, self.values))
         found: list[Values] = []
         for at, line in enumerate(lines):
-            found.append(self.room.do(line.role, self.name, part_of(self.tap, at, line.text)))
+            found.append(self.room.do(line.role, self.name, self.part(at, line)))
             if found[-1]["outcome"] != "taken":
                 return found
-        if self.is_out:
+        if self.is_out and not self.is_written:
             # Somebody may have changed other rows meanwhile.
-            preview.keep_decisions(self.room.folder, ruled(self.room, self.values, True))
+            row = ruled(self.room, self.values, True)
+            self.write(replace(row, text=row.before) if self.is_decided_anew(row) else row)
         return found
+
+    def is_decided_anew(self, row: preview.Ruled) -> bool:
+        """Whether a row that is to be taken out is of a decision that was begun later; NotSent if that can't be told."""
+        begun = list(self.room.register.decisions.items())
+        at = [id for id, _ in begun].index(self.tap.id)
+        later = [lines for id, lines in begun[at + 1:] if "/" not in id]
+        about = {" ".join(line.text.split()[2:0:-1]) for lines in later for line in lines}
+        if row.text == row.before or about & preview.about(row.name):
+            return True
+        if not all(later):
+            raise NotSent(preview.CHANGED)
+        return False
+
+    @property
+    def is_written(self) -> bool:
+        """Whether decisions.txt has come to be as this decision makes it: what it is since then is others'."""
+        return written_of(self.tap) in self.room.register.decisions
+
+    def write(self, found: preview.Ruled) -> None:
+        preview.keep_decisions(self.room.folder, found)
+        self.room.register.decide(written_of(self.tap), ())
 
     def begun(self) -> Sequence[Line]:
         """The lines of a decision, which are noted, and which is kept from now on. What the office asks of them is
@@ -89,13 +116,26 @@ class Decision:
         if [f"{line.role} {line}" for line in found.lines] != self.values.get("lines"):
             raise NotSent(remark("decision-changed"))
         self.check(found)
-        for asked in asked_first(self.room, found.lines):
+        for asked in self.asked_first(found.lines):
             if asked not in self.tap.agreed:
                 raise Asked(asked, [])
         self.room.register.decide(self.tap.id, found.lines, found.stays)
         if not self.is_out:
             self.keep(found)
         return found.lines
+
+    def part(self, at: int, line: Line) -> Tap:
+        """The tap of one of its lines. Who takes back one thing is asked about that alone: what CLEAR takes besides comes back."""
+        part = part_of(self.tap, at, line.text)
+        is_back = self.values.get("reopen") is True and line.text.startswith("CLEAR ")
+        return replace(part, agreed=(*part.agreed, *asked_first(self.room, [line]))) if is_back else part
+
+    def asked_first(self, lines: Sequence[Line]) -> list[Question]:
+        """What is asked of a decision. What is taken back alone clears nothing else."""
+        asked, race = asked_first(self.room, lines), self.room.facts.race(lines[0].text.split()[1]) if lines else None
+        if self.values.get("reopen") is not True or race is None:
+            return asked
+        return [question("correction", self.room.facts.called, race=race.number)] if race.counts else []
 
     def check(self, found: preview.Ruled) -> None:
         """NotSent if decisions.txt is another than the one that was shown, unless it has the decision already."""
@@ -104,7 +144,7 @@ class Decision:
 
     def keep(self, found: preview.Ruled) -> None:
         self.check(found)
-        preview.keep_decisions(self.room.folder, found)
+        self.write(found)
 
 
 def asked_first(room: Room, lines: Sequence[Line]) -> list[Question]:
@@ -113,6 +153,11 @@ def asked_first(room: Room, lines: Sequence[Line]) -> list[Question]:
     for line in lines:
         first.setdefault(tuple(line.text.split()[1:3]), line)
     return [asked for line in first.values() for asked in questions(room.facts, line.role, line.text, ())]
+
+
+def written_of(tap: Tap) -> str:
+    """What the register has once decisions.txt is as a decision makes it."""
+    return f"{tap.id}/written"
 
 
 def tap_of(values: Mapping[str, Any]) -> Tap:

@@ -123,6 +123,29 @@ class Clock(ClockTrial):
             self.asked(ann)
             self.assertLess(ann.run(ERROR), NEAR)
 
+    def test_put_back_while_taps_wait(self) -> None:
+        """The clock is put back while taps wait, and the page is loaded again: they are sent in the order of the taps."""
+        line = self.line()
+        ann = self.wrong(0, line.own)
+        ann.tap("NED12")
+        self.settle(ann)
+        self.is_kept(ann)
+        line.cut()
+        ann.until(AWAY)
+        ann.tap("GBR7")
+        ann.run(SET.format(-HOUR))
+        ann.click("#list li[data-sail=GBR7] button.finisher")
+        ann.choose("strike")
+        ann.tap("FRA9")
+        ann.reload()
+        ann.until("document.querySelectorAll('#list li').length === 2")
+        line.mend()
+        ann.until(f"{ASKED} || document.querySelector('#link').dataset.state === 'live'")
+        if ann.run(ASKED):
+            ann.choose("then")
+        self.settle(ann)
+        self.assertEqual(self.journal(), [*finishes("NED12", "GBR7"), "FINISH STRIKE 1 GBR7", *finishes("FRA9")])
+
     def test_dead_line(self) -> None:
         """The clock is put back by hours, and the line is dead without having said so: the page notices."""
         ann = self.wrong(0)
@@ -173,6 +196,22 @@ class Timed(ClockTrial):
         self.settle(ann)
         moments = [int(second) % DAY for second in range(before - 1, int(after) + 2)]
         self.assertIn(self.finish_in_sheet("GBR7"), moments)
+
+    def test_a_day_ahead(self) -> None:
+        """What a phone keeps of a sail that wasn't read is there after the page is loaded again, also if its clock is a day
+        ahead, and whatever is kept next."""
+        ann = self.wrong(25 * HOUR)
+        ann.until("!!document.querySelector('#grid .boat')")
+        rows = "document.querySelectorAll('#list li.unread').length"
+        for count in (1, 2):
+            ann.click("#unread")
+            ann.until(f"{rows} === {count}")
+            ann.run(SET.format(0))
+            ann.reload()
+            ann.until(f"{rows} === {count}")
+            # A finger that bounces is none.
+            time.sleep(0.5)
+        self.assertEqual(ann.texts("#list li.unread .sail"), ["?1", "?2"])
 
 
 if __name__ == "__main__":

@@ -195,6 +195,57 @@ class Desks(WebTrial):
         scorer.until("document.querySelectorAll('.order tbody tr').length === 0")
         self.assertEqual(self.journal()[2:], ["SCORER STRIKE 1 GBR101", "SCORER STRIKE 1 GBR7"])
 
+    def test_reopened(self) -> None:
+        """Reopen beside redress takes that back alone: what is kept in decisions.txt of the same boat and race stays."""
+        finish, scorer, raw = (web_devices.Device(self.port, role).come(self.links[role], role) for role in ("finish", "scorer", "jury"))
+        for sail in SAILS:
+            finish.tap(f"FINISH 1 {sail}")
+        scorer.tap("SCORE 1")
+        given, agreed = {"line": "race 1 GBR7 NSC", "note": ""}, [{"kind": "correction", "values": {"race": 1}}]
+        shown = raw.ask("POST", "/office/jury/ruling/cup", given)[1]
+        values = {**given, "lines": shown["lines"], "tag": shown["tag"], "id": web_devices.new_id(), "agreed": agreed}
+        self.assertEqual(raw.ask("POST", "/office/jury/decide/cup", values)[0], 200)
+        self.assertEqual(raw.tap("REDRESS 1 GBR7 2.0", agreed=agreed)[1]["outcome"], "taken")
+        jury, before = self.device("jury", "Protest room"), self.journal()
+        jury.until("document.querySelectorAll('.held tr').length === 1 && document.querySelectorAll('.kept li').length === 1")
+        jury.click(".held tr button")
+        jury.until("!!document.querySelector('#send')")
+        self.assertIn("CLEAR 1 GBR7; SCORER MARK 1 GBR7 DNF", jury.text("#preview"))
+        jury.click("#send")
+        jury.until("!!document.querySelector('dialog[open]')")
+        self.assertIn("Race 1 counts already. Is this a correction?", jury.text("dialog"))
+        jury.choose("yes")
+        jury.until("document.querySelector('.held').textContent === 'Nothing yet.' && document.querySelectorAll('.kept li').length === 1")
+        self.assertEqual(self.journal()[len(before):], ["JURY CLEAR 1 GBR7", "SCORER MARK 1 GBR7 DNF"])
+        self.assertEqual(self.text("cup", "decisions.txt"), "race 1 GBR7 NSC\n")
+        self.need_no_faults()
+
+    def test_what_is_abandoned(self) -> None:
+        """Before a race is abandoned, each place, code and penalty that goes or stays is said with its boat."""
+        finish, jury = (web_devices.Device(self.port, role).come(self.links[role], role) for role in ("finish", "jury"))
+        for line in ("FINISH 1 GBR101", "? 1", "FINISH 1 GBR7", "FINISH 1 NED12", "MARK 1 FRA9 BFD", "PENALTY 1 FRA9 SCP",
+                     "MARK 1 IRL5 RET", "PENALTY 1 NED12 ZFP"):
+            self.assertEqual(finish.tap(line)[0], 200, line)
+        for line in ("MARK 1 GBR7 DSQ", "REDRESS 1 GBR101 2.5"):
+            self.assertEqual(jury.tap(line)[0], 200, line)
+        scorer, before = self.device("scorer", "Bea’s laptop"), self.journal()
+        self.show(scorer, 1, 6)
+        scorer.click("#abandon")
+        scorer.until("!!document.querySelector('dialog[open]')")
+        self.assertEqual(scorer.text("dialog .mono").split("\n"), [
+            "STRIKE 1 GBR101", "STRIKE 1 GBR7", "STRIKE 1 NED12", "CLEAR 1 FRA9 (BFD, SCP)", "MARK 1 FRA9 BFD", "CLEAR 1 IRL5 (RET)"])
+        for words in ("Place that is dropped: ?1", "ZFP and BFD stay (RRS 30.2, 30.4): FRA 9 BFD and NED 12 ZFP",
+                      "What the jury decided stays (RRS 36): GBR 7 DSQ and GBR 101 RDG 2.5"):
+            self.assertIn(words, scorer.text("dialog"))
+        self.assertNotIn("To take race", scorer.text("dialog"))
+        self.assertEqual(self.journal(), before)
+        scorer.choose("yes")
+        self.show(scorer, 1, 2)
+        race = self.device("scorer", "Cy").run("fetch('/office/scorer/state/cup').then(said => said.json()).then(said => said.races['1'])")
+        self.assertEqual((race["codes"], race["penalties"], race["redress"], race["unread"]),
+                         ({"FRA9": "BFD", "GBR7": "DSQ"}, {"NED12": ["ZFP"]}, {"GBR101": "2.5"}, []))
+        self.need_no_faults()
+
     def test_links(self) -> None:
         """A new link lets a device in by the language of its own, and one that is put out keeps its taps."""
         ann, scorer = self.phone(), self.device("scorer", "Bea’s laptop")
@@ -292,6 +343,20 @@ class TwoClasses(WebTrial):
         for device in (jury, scorer):
             device.until("!document.querySelector('#stale')")
         self.assertEqual(self.journal()[-2:], ["JURY CLEAR 1 GBR7", "JURY REDRESS 1 GBR7 4.5"])
+        self.need_no_faults()
+
+    def test_ticks(self) -> None:
+        """A boat of one class that was compared with the paper isn't compared in the other."""
+        desk = web_devices.Device(self.port, "scorer").come(self.links["scorer"], "Ada")
+        for name in self.classes:
+            desk.tap("FINISH 1 GBR33", name=name)
+        scorer = self.device("scorer", "Bea’s laptop")
+        for name, title, paper in (("cup", "Autumn Cup", "1 of 1"), ("fleet", "Folkboats", "0 of 1")):
+            scorer.click(f"#classes [data-key={name}]")
+            scorer.until(f"document.querySelector('#title').textContent === '{title}' && !!document.querySelector('.tick button')")
+            if name == "cup":
+                scorer.click(".tick button")
+            scorer.until(f"document.querySelector('.paper').textContent.startsWith('{paper}')", 20)
         self.need_no_faults()
 
     def test_sent_again(self) -> None:

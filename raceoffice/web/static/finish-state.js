@@ -14,6 +14,7 @@ const STALE = 3600e3;
 // How many taps can be undone
 const UNDOABLE = 12;
 const DAY = 864e5;
+const MOMENT = "moment:";
 
 export function kept(key, usual) {
   try { return JSON.parse(localStorage.getItem(key)) ?? usual; } catch { return usual; }
@@ -26,7 +27,7 @@ export function keep(key, value) {
 // `mode` is what the next tap on a boat means: {kind: finish, level, before, known, code or round}.
 export const page = {
   classes: [], states: {}, races: kept("races", {}), rounded: kept("rounded", {}), undoable: kept("undoable", []),
-  moments: kept("moments", []).filter(one => now() - one.at < DAY),
+  moments: keptMoments(),
   mode: {kind: "finish"}, digits: "", link: "away", redraw: () => {}};
 
 export const queue = new Queue(item => {
@@ -40,7 +41,8 @@ export const queue = new Queue(item => {
 
 followClock(() => {
   for (const item of queue.items) if (settle(item)) queue.change(item, {});
-  if (page.moments.filter(settle).length) keepMoments(page.moments);
+  page.moments.filter(settle).forEach(keepMoment);
+  for (const one of page.moments) if (!one.clock && now() - one.at > DAY) forgetMoment(one);
 });
 
 export const isWaiting = item => item.state === "unsent" || item.state === "sending";
@@ -81,30 +83,53 @@ export function raceNow(name) {
 // By corrected time this device keeps the moment of a sail that wasn't read. `by` is the tap that says who she was.
 const momentsOf = name => page.moments.filter(one => one.class === name && one.race === page.races[name]);
 
-function keepMoments(moments) {
-  page.moments = moments;
-  keep("moments", moments);
+// Each has a key of its own: another tab keeps others. An older page had one for all.
+function keptMoments() {
+  kept("moments", []).forEach(one => keep(MOMENT + one.id, one));
+  localStorage.removeItem("moments");
+  const keys = Object.keys(localStorage).filter(key => key.startsWith(MOMENT));
+  return keys.map(key => kept(key)).filter(Boolean).sort((one, other) => one.at - other.at);
+}
+
+function keepMoment(one) {
+  keep(MOMENT + one.id, one);
   page.redraw();
 }
 
+function forgetMoment({id}) {
+  localStorage.removeItem(MOMENT + id);
+  page.moments = page.moments.filter(one => one.id !== id);
+}
+
+addEventListener("storage", ({key, newValue}) => {
+  if (!key?.startsWith(MOMENT)) return;
+  page.moments = page.moments.filter(one => MOMENT + one.id !== key);
+  if (newValue) page.moments.push(JSON.parse(newValue));
+  page.redraw();
+});
+
 export function addMoment(name) {
-  const one = {id: newId(), class: name, race: page.races[name], mark: `?${momentsOf(name).length + 1}`, ...moment()};
+  const last = Math.max(0, ...momentsOf(name).map(({mark}) => Number(mark.slice(1))));
+  const one = {id: newId(), class: name, race: page.races[name], mark: `?${last + 1}`, ...moment()};
   noteUndoable({id: one.id, class: name, line: `? ${one.race}`});
-  keepMoments([...page.moments, one]);
+  page.moments.push(one);
+  keepMoment(one);
 }
 
 // Whose a moment was, by a line; nobody's without one
 export function endMoment(name, mark, line) {
   const found = momentsOf(name).find(one => one.mark === mark);
   found.by = line ? addTap(name, line, {at: found.at, clock: found.clock}).id : "-";
-  keepMoments(page.moments);
+  keepMoment(found);
 }
 
 // Takes back what a tap did to a moment; whether that was all.
 export function undoMoment({id}) {
-  const before = page.moments;
-  keepMoments(before.filter(one => one.id !== id).map(one => one.by === id ? {...one, by: ""} : one));
-  return page.moments.length < before.length;
+  const count = page.moments.length;
+  forgetMoment({id});
+  for (const one of page.moments.filter(({by}) => by === id)) keepMoment(Object.assign(one, {by: ""}));
+  page.redraw();
+  return page.moments.length < count;
 }
 
 // Whether a class is scored by corrected time: each tap has its time, and level or ahead are nothing there.
@@ -141,7 +166,7 @@ export function toComeCount(name) {
 // Adds a tap: `line` has # in place of the race's number.
 export function addTap(name, line, more = {}) {
   const race = raceNow(name), number = page.races[name];
-  const item = queue.add({class: name, line: line.replace("#", number), seen: page.states[name]?.entries ?? 0, ...more});
+  const item = queue.add({class: name, line: line.replace("#", number), seen: page.states[name]?.entries ?? 0, series: page.states[name]?.series, ...more});
   if (!more.undoes && !line.startsWith("START")) {
     noteUndoable({id: item.id, class: name, line: item.line, back: lineThatUndoes(item.line, race)});
   }
@@ -165,8 +190,8 @@ export function setDigits(digits) {
 }
 
 // The item that the office asks about: the first, or that of a boat
-export function askedItem(sail = "") {
-  return queue.items.find(item => item.state === "asked" && (!sail || item.line.split(" ")[2] === sail));
+export function askedItem(name, sail) {
+  return queue.items.find(item => item.state === "asked" && (!name || item.class === name && isHere(item) && item.line.split(" ")[2] === sail));
 }
 
 // Asks somebody what the office asks about an item, if no other window is open.

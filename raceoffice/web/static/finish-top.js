@@ -2,6 +2,7 @@
 // The top of the finish page: the race of each class, how the link is, the time, and what the next tap means.
 import {byId, element, fill} from "./elements.js";
 import {languageField, text} from "./texts.js";
+import {isOut} from "./office.js";
 import {choose, dialogOf} from "./dialogs.js";
 import {spaced} from "./sails.js";
 import {keep, page, queue, raceNow, setMode, stateOf, toComeCount, trouble} from "./finish-state.js";
@@ -27,13 +28,12 @@ function raceButton(one, place) {
 
 function drawLink() {
   const unsent = queue.items.filter(item => stateOf(item) === "unsent").length, isLive = page.link === "live";
-  const isOut = page.link === "out" || queue.items.some(item => item.isOut);
   byId("link").className = `link ${isOut ? "bad" : unsent || !isLive ? "away" : ""}`;
-  byId("link").textContent = linkWords(unsent, isLive, isOut);
+  byId("link").textContent = linkWords(unsent, isLive);
   byId("link").dataset.state = isOut ? "out" : isLive && !unsent && !trouble() ? "live" : isLive ? "sending" : "away";
 }
 
-function linkWords(unsent, isLive, isOut) {
+function linkWords(unsent, isLive) {
   if (isOut) return text("common.linkEnded");
   if (isLive && queue.items.some(item => item.state === "asked")) return text("finish.answerNeeded");
   if (!isLive) return unsent ? text("finish.unsentOffline", {n: unsent}) : text("common.offline");

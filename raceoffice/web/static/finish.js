@@ -55,7 +55,7 @@ async function takeNews(versions) {
 function takeLink(link) {
   if (link === page.link) return;
   page.link = link;
-  if (link === "live" && !me?.token) comeIn();
+  if (link === "live" && !me?.token) comeIn().then(draw);
   draw();
 }
 

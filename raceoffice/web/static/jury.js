@@ -21,8 +21,8 @@ const SOON = 250, TYPED = 400, LONG = 30000;
 // The most letters of a note
 const NOTE = 200;
 
-// `out` is the row of a decision that is to be taken out
-const EMPTY = {race: 0, sail: "", what: "", takes: "", note: "", out: ""};
+// `out` is the row of a decision that is to be taken out, and `back` what is to be taken back of a boat, as "race 1 GBR7 DSQ"
+const EMPTY = {race: 0, sail: "", what: "", takes: "", note: "", out: "", back: ""};
 // What is to be decided, and in which class
 const form = {...EMPTY, class: ""};
 let shown = null, asked = 0, timer = 0;
@@ -35,16 +35,16 @@ function askSoon(milliseconds) {
 }
 
 function change(values) {
-  Object.assign(form, {out: ""}, values);
+  Object.assign(form, {out: "", back: ""}, values);
   askSoon(SOON);
   draw();
 }
 
 const nothing = () => change({what: "", takes: "", note: ""});
-const isKept = () => form.out !== "" || isOther(form.what);
-// What is to be decided, as it is shown: the row that is taken out, or a line
-const wanted = () => form.out || lineOf(form);
-const given = () => ({line: wanted(), out: form.out !== "", note: form.note});
+const isKept = () => form.out !== "" || form.back !== "" || isOther(form.what);
+// What is to be decided, as it is shown: the row that is taken out, what is taken back, or a line
+const wanted = () => form.out || form.back || lineOf(form);
+const given = () => ({line: wanted(), out: form.out !== "", reopen: form.back !== "", note: form.note});
 
 // Whom the decision would move. The program scores the journal with the line, and keeps nothing of it.
 async function preview() {
@@ -129,18 +129,18 @@ const amend = one => {
 };
 const takeOut = one => change({race: one.race ?? form.race, sail: one.sail ?? form.sail, what: "", takes: "", note: "", out: one.row});
 
-// What was given is taken back: of a decision that is kept its points and its row, of another all that she holds.
+// What was given is taken back, and nothing else of hers: of points that are a kept decision's, its row, too.
 function reopen({number, sail, code}) {
-  const kept = decisions().find(one => code === "RDG" && one.race === Number(number) && one.sail === sail);
+  const kept = decisions().find(one => code === "RDG" && one.redress && one.race === Number(number) && one.sail === sail);
   if (kept) takeOut(kept);
-  else change({race: Number(number), sail, what: "CLEAR", takes: ""});
+  else change({race: Number(number), sail, what: "", takes: "", note: "", back: `race ${number} ${sail} ${code}`});
 }
 
 function heldRow(one) {
   const {number, sail, code, how} = one;
   return element("tr", {}, element("td", {}, `${text("common.race")} ${number}`), element("th", {scope: "row"}, spaced(sail)),
     element("td", {}, element("span", {class: `code ${kindOf(code)}`}, code), how ? ` ${how}` : ""),
-    element("td", {}, element("button", {type: "button", class: "quiet", "aria-label": text("jury.reopenWhat", {sail: spaced(sail), number}),
+    element("td", {}, element("button", {type: "button", class: "quiet", "aria-label": `${text("jury.reopenWhat", {sail: spaced(sail), number})}, ${code}`, "data-reopen": `${number} ${sail} ${code}`,
       onclick: () => reopen(one)}, text("jury.reopen"))));
 }
 
@@ -174,7 +174,10 @@ function draw() {
   openOthers();
 }
 
-const verdictOf = ({verdict}) => form.out ? text("jury.isTakenOut") : verdict?.kind ? verdictWords(verdict) : "";
+function verdictOf({verdict}) {
+  if (form.back) return text("jury.isTakenBack", {code: form.back.split(" ")[3]});
+  return form.out ? text("jury.isTakenOut") : verdict?.kind ? verdictWords(verdict) : "";
+}
 
 // The other decisions are open while one of them is chosen.
 function openOthers() {

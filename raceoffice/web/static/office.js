@@ -5,6 +5,8 @@ import {text} from "./texts.js";
 export const role = location.pathname.split("/")[2];
 // Who this device is for the office: {role, name, token, classes, ..}
 export let me = null;
+// Whether the office has last answered that this device isn't let in any more
+export let isOut = false;
 
 // Milliseconds: how long an answer may take; how much slower than the quickest one an answer may be from which
 // the clock is learnt; after how long without a sign of life a connection is taken for dead; and until a state is asked for
@@ -101,15 +103,22 @@ function fieldsOf(body, unsent) {
   return body === undefined ? fields : {...fields, "Content-Type": "application/json", "X-Token": me?.token ?? ""};
 }
 
+// Whether the device has another token by now: it came again in another tab, or the page began without a connection.
+async function isTokenOld(token) {
+  return me !== null && await comeIn() === 200 && me.token !== token;
+}
+
 // Asks the office, and gives {status, ..values}. Status 0: nobody answered.
 export async function ask(path, body, patience = PATIENCE) {
   lookAtClock();
-  const asked = performance.now(), {span} = clock, stop = new AbortController(), unsent = unsentCount();
+  const asked = performance.now(), {span} = clock, token = me?.token, stop = new AbortController(), unsent = unsentCount();
   const timer = setTimeout(() => stop.abort(), patience);
   try {
     const answer = await fetch(path.startsWith("/") ? path : `/office/${role}/${path}`, {
       method: body === undefined ? "GET" : "POST", headers: fieldsOf(body, unsent), signal: stop.signal, cache: "no-cache",
       body: body === undefined ? undefined : JSON.stringify(body)});
+    if (answer.status === 403 && await isTokenOld(token)) return await ask(path, body, patience);
+    isOut = [401, 403].includes(answer.status);
     unsentHeard = unsent;
     const values = await answer.json();
     learnClock(values.now, asked, span);

@@ -23,16 +23,12 @@ async function inWords(said) {
 // The taps that were kept when the page was left. One that was on its way is sent again.
 function keptItems() {
   const keys = Object.keys(localStorage).filter(key => key.startsWith(PREFIX)).sort();
-  return keys.map(key => {
-    const item = {...JSON.parse(localStorage.getItem(key)), key};
-    return item.state === "sending" ? {...item, state: "unsent"} : item;
-  });
+  return keys.map(key => itemOf(key, localStorage.getItem(key)));
 }
 
-// Keys are in the order of the taps, also of two within a millisecond.
-function newKey() {
-  const padded = number => String(number).padStart(15, "0");
-  return `${PREFIX}${padded(Date.now())}.${padded(performance.now().toFixed(3))}`;
+function itemOf(key, kept) {
+  const item = {...JSON.parse(kept), key};
+  return item.state === "sending" ? {...item, state: "unsent"} : item;
 }
 
 export class Queue {
@@ -43,6 +39,16 @@ export class Queue {
     this.busy = new Set();
     this.isFull = false;
     this.items = keptItems();
+    addEventListener("storage", ({key, newValue}) => this.takeOver(this.items.find(item => item.key === key), newValue));
+  }
+
+  // Takes over what another tab has done with an item.
+  takeOver(item, kept) {
+    if (!item) return;
+    Object.assign(item, {clock: undefined}, kept ? itemOf(item.key, kept) : {state: "gone"});
+    // This tab may have kept it again just before it heard of that.
+    if (kept) this.told(item);
+    else this.drop(item);
   }
 
   // What waits for an answer of the office, or of somebody here
@@ -58,8 +64,15 @@ export class Queue {
     return this.items.find(item => item.id === id);
   }
 
+  // A key after those of all taps that are kept, whatever the clock says
+  newKey(id) {
+    const keys = [...Object.keys(localStorage), ...this.items.map(item => item.key)].filter(key => key.startsWith(PREFIX));
+    const last = Math.max(0, ...keys.map(key => Number(key.slice(PREFIX.length).split(".")[0])));
+    return `${PREFIX}${String(last + 1).padStart(15, "0")}.${id}`;
+  }
+
   add(values) {
-    const item = {id: newId(), ...moment(), agreed: [], state: "unsent", key: newKey(), ...values};
+    const id = newId(), item = {id, ...moment(), agreed: [], state: "unsent", key: this.newKey(id), ...values};
     this.items.push(item);
     this.keep(item);
     this.told(item);
@@ -79,6 +92,7 @@ export class Queue {
   }
 
   change(item, values) {
+    if (!this.items.includes(item)) return;
     Object.assign(item, values);
     this.keep(item);
     this.told(item);
@@ -121,8 +135,8 @@ export class Queue {
     if (!this.items.includes(item)) return true;
     // From now on the office may have taken it, whatever becomes of the answer.
     this.change(item, {state: "sending", isSent: true});
-    const {id, line, at, seen, behind, agreed, by_clock, undoes, was} = item;
-    const said = await ask(`line/${encodeURIComponent(item.class)}`, {id, line, at, seen, behind, agreed, by_clock, undoes, was});
+    const {id, line, at, seen, behind, agreed, by_clock, undoes, was, series} = item;
+    const said = await ask(`line/${encodeURIComponent(item.class)}`, {id, line, at, seen, behind, agreed, by_clock, undoes, was, series});
     return !this.items.includes(item) || this.answered(item, said);
   }
 
@@ -144,7 +158,7 @@ export class Queue {
       return true;
     }
     // Nobody has answered, or the office is away: the same again, later.
-    this.change(item, {state: "unsent", words: troubleOf(said), isOut: said.status === 401 || said.status === 403});
+    this.change(item, {state: "unsent", words: troubleOf(said)});
     setTimeout(() => this.send(), pauseAfter(this.tries++));
     return false;
   }

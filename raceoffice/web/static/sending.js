@@ -32,11 +32,18 @@ function groupOf(name) {
 // What is asked, with the class that it is about if there are several
 export const withClass = (words, name) => [groupOf(name), words].filter(Boolean).join(": ");
 
-// Asks a question of the office about a class; "yes" if somebody agrees.
+// Whether something is said of a line: it is the line, with what it takes
+const isOf = (said, line) => !said.what && `${said.text.trim()} `.startsWith(`${line} `);
+
+// What is said of no line. How many lines there are is in the question.
+const saidElse = (lines, said) => saidWords(said.filter(one => one.what !== "plan" && !lines.some(line => isOf(one, line))));
+
+// Asks a question of the office about a class, with all that is said; "yes" if somebody agrees.
 export function agrees(name, question, said = []) {
   const asked = inWords(question), {lines = [], moves = [], also = ""} = question.kind === "line-of-several" ? {} : asked.values;
-  const more = lines.length || moves.length ? [also, ...moves.map(moveOf)].filter(Boolean).join("\n") : saidWords(said).join("\n");
-  return choose(text("common.isThatRight"), [withClass(wordsOf(asked), name), lines.length ? element("p", {class: "mono"}, lines.join("\n")) : null, more],
+  const shown = lines.map(line => said.find(one => isOf(one, line))?.text.trim() ?? line);
+  const more = [also, ...moves.map(moveOf), ...saidElse(lines, said)].filter(Boolean).join("\n");
+  return choose(text("common.isThatRight"), [withClass(wordsOf(asked), name), shown.length ? element("p", {class: "mono"}, shown.join("\n")) : null, more],
     [{value: "", label: text("common.no")}, {value: "yes", label: text("common.yes"), look: "main"}]);
 }
 
