@@ -26,9 +26,9 @@ from pathlib import Path
 
 CRATES = Path("crates")
 # Crates that are there for tests alone. Modules of tests aren't counted in any crate.
-FOR_TESTS = {"regatta_fixtures", "regatta_trials"}
+FOR_TESTS = {"regatta_trials"}
 TESTS = {"tests", "tests.rt"}
-DECIDED = "Command Line Step Change Revision NewScores Reply".split()
+DECIDED = "Command Line AskedLine DeskLine Step Change Revision NewScores Reply".split()
 
 # Module: calls in it, in the order in which a FINISH first comes to the module.
 PATH = """
@@ -36,6 +36,7 @@ service/sessions: take_all answer_line answer ask_desk
 service/connection: read write
 service/stopping: read_patiently read_once
 talk/cutter: take
+talk/asked: of
 office/stopping_gate: before after
 terms/reading: read_line read_words read_command read_verb command_after_verb with_two read_race
 terms/words: first_words

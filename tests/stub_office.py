@@ -10,7 +10,7 @@ import time
 from typing import Any
 
 import helpers
-from raceoffice.remarks import remark
+from raceoffice.remarks import Remark, remark
 from raceoffice.web.preview import wrong_shown
 from raceoffice.web.states import remarks_of
 from web_office import BOATS, SAILS
@@ -88,6 +88,11 @@ def decisions() -> list[dict[str, Any]]:
             wrong_shown(NO_DECISION) | {"row": "race 2 K12"}]
 
 
+def at_noon(said: list[Remark]) -> list[dict[str, Any]]:
+    """What an office said at noon."""
+    return [{**one, "at": NOON} for one in remarks_of(said)]
+
+
 def devices() -> dict[str, Any]:
     return {"board": "http://192.168.1.20:8080/", "keys": ["FINISH", "JURY", "SCORER"],
             "devices": [{"mark": f"{at}" * 16, "role": role, "name": name, "heard": heard, "unsent": unsent, "mine": at == 0}
@@ -95,8 +100,8 @@ def devices() -> dict[str, Any]:
                             ("SCORER", "Bea’s laptop", 0, 0), ("FINISH", "Ann’s phone", 4, 3),
                             ("JURY", "Protest room", 700, 0)])],
             "beside": [{"name": "spring-cup-2025", "title": "Spring Cup", "state": "final"}],
-            "offices": [{"class": "cup", "said": remarks_of(OFFICE_SAYS), "open": True, "is_kept_here": False},
-                        {"class": "fleet", "said": remarks_of([remark("office-nothing")]), "open": False, "is_kept_here": False}]}
+            "offices": [{"class": "cup", "said": at_noon(OFFICE_SAYS), "open": True, "is_kept_here": False},
+                        {"class": "fleet", "said": at_noon([remark("office-nothing")]), "open": False, "is_kept_here": False}]}
 
 
 def results() -> dict[str, Any]:

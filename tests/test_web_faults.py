@@ -72,7 +72,7 @@ class Faults(helpers.Series):
             self.assertTrue(again.wait(helpers.PATIENCE), "nobody keeps the office")
             self.closed(office)
         self.assertIn("IndexError", self.text("cup", "office", "faults.txt"))
-        self.assertIn("Closed.", "\n".join(office.said))
+        self.assertIn("Closed.", "\n".join(text for text, _ in office.said))
 
     def test_closing(self) -> None:
         """Who closes an office isn't held up for ever if nothing can be said at its end."""
@@ -112,7 +112,7 @@ class Faults(helpers.Series):
         os.rename(program, away)
         with mock.patch.object(kept_office, "SOON", 0.05), mock.patch.object(kept_office, "LATE", 0.2):
             helpers.kill_office(self.folder.path)
-            helpers.until("three tries", lambda: "\n".join(office.said).count("It is tried again in ") >= 3)
+            helpers.until("three tries", lambda: "\n".join(text for text, _ in office.said).count("It is tried again in ") >= 3)
             self.assertFalse(office.is_there())
             os.rename(away, program)
             helpers.until("the office", office.is_there)
@@ -125,7 +125,7 @@ class Faults(helpers.Series):
         os.remove(program)
         with mock.patch.object(kept_office, "SOON", helpers.PATIENCE):
             helpers.kill_office(self.folder.path)
-            helpers.until("a try", lambda: "It is tried again in " in "\n".join(office.said))
+            helpers.until("a try", lambda: "It is tried again in " in "\n".join(text for text, _ in office.said))
             before = threading.active_count()
             self.assertFalse(office.close())
             helpers.until("the end of the tries", lambda: threading.active_count() < before)

@@ -221,6 +221,23 @@ OK 13
         self.assertEqual(finish.tap("?1 1 GBR7")[1]["line"], "FINISH 1 GBR7")
 
 
+class Closing(unittest.TestCase):
+    def test_no_note(self) -> None:
+        """A folder or a pipe in place of the note of closing closes no office."""
+        with tempfile.TemporaryDirectory() as path:
+            with open(os.path.join(path, "series.ini"), "w", encoding="utf-8") as file:
+                file.write("[series]\ntitle = Cup\n")
+            folder = Folder(path)
+            folder.make_private()
+            note = folder.file("office", "closing")
+            for make, remove in ((os.mkdir, os.rmdir), (os.mkfifo, os.remove)):
+                make(note)
+                self.assertFalse(folder.is_closing())
+                remove(note)
+            folder.set_closing(True)
+            self.assertTrue(folder.is_closing())
+
+
 class Damaged(unittest.TestCase):
     """Files of the web that a disk or somebody has damaged."""
 

@@ -3,13 +3,14 @@ from __future__ import annotations
 
 import datetime
 import os
+import time
 import unittest
 from typing import Any
 
 import helpers
 from raceoffice.series import settings
 from test_web_timed import ENTRIES, Prepared, moment
-from web_devices import Device, Web
+from web_devices import Device, Web, new_id
 
 
 @helpers.needs_times
@@ -103,6 +104,23 @@ class Races(Prepared):
         self.write("Sail,Start,Finish,Code\nGBR101,14:00,15:00:00,\n", "cup", "times", "race-1.csv")
         status, said = ann.tap("START 1 14:05", at=moment("14:06:00"))
         self.assertEqual((status, said["question"]["values"]["start"]), (409, "14:00:00"))
+
+    def test_start_of_an_abandoned_race(self) -> None:
+        """A start that was tapped before the race was abandoned, and that comes later, is asked about: it may not be that of
+        the race that is sailed again. Who taps later isn't asked."""
+        ann, bob, scorer, id = self.device("finish"), self.device("finish", "Bob"), self.device("scorer"), new_id()
+        late = int(time.time() * 1000) - 60_000
+        ann.tap("START 1 14:00", at=late)
+        self.yes(scorer, "ABANDON 1")
+        before = self.sheet()
+        status, said = bob.tap("START 1 14:00:03", id, at=late, was="")
+        self.assertEqual((status, said["question"]["kind"], said["question"]["values"]),
+                         (409, "start-abandoned", {"race": 1, "written": "14:00:03"}))
+        self.assertEqual(self.sheet(), before)
+        self.assertEqual(bob.tap("START 1 14:00:03", id, at=late, was="", agreed=[said["question"]])[1]["outcome"], "noted")
+        self.assertEqual(self.sheet()[1], "GBR101,14:00:03,,")
+        self.yes(scorer, "ABANDON 1")
+        self.assertEqual(ann.tap("START 1 16:00", at=int(time.time() * 1000), was="")[1]["outcome"], "noted")
 
     def test_second_start(self) -> None:
         """A start that another device has tapped three seconds after the first, and that comes when boats have finished, is

@@ -185,6 +185,11 @@ def of_start(words: Words) -> str:
             "place?")
 
 
+def of_old_start(words: Words) -> str:
+    """A start that was tapped before the race was abandoned, and that comes later."""
+    return f"Race {words.text('race')} has been abandoned since. Is {words.text('written')} its start all the same?"
+
+
 def of_others(words: Words) -> str:
     """Others were recorded after a finisher was seen, and before she was."""
     others, sail = words.boats("others"), words.boat()
@@ -241,7 +246,8 @@ WORDS: dict[str, Callable[[Words], str]] = {
     "drop-place": of_dropping, "keep-place-again": of_keeping,
     # Only pages ask these.
     "sent-already": of_same_line, "others-recorded": of_others, "tapped-too": of_tapped_too,
-    "start-since": of_start, "score-unsent": of_unsent, "another-series": of_another_series,
+    "start-since": of_start, "start-abandoned": of_old_start, "score-unsent": of_unsent,
+    "another-series": of_another_series,
     # Before an office is opened.
     "use-copy": of_copy, "not-continued": of_difference, "new-rules": of_rules,
     "take-over": of_taking_over, "remove-boat": of_removal,

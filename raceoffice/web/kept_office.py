@@ -22,6 +22,7 @@ from raceoffice.session.question_words import question
 from raceoffice.terminal import sentence
 from raceoffice.traces import guarded
 from raceoffice.web.series_zone import keep_zone
+from raceoffice.web.states import Values, remarks_of
 from raceoffice.web.tap_session import Asked
 
 # Seconds between two looks at an office, and how often one that has gone is opened again by itself within how
@@ -38,7 +39,8 @@ class KeptOffice:
 
     def __init__(self, folder: Folder, tell: Callable[[str], None]) -> None:
         self.folder, self.tell = folder, tell
-        self.said: collections.deque[str] = collections.deque(maxlen=SAID)
+        # With the moment of each, in milliseconds
+        self.said: collections.deque[tuple[str, int]] = collections.deque(maxlen=SAID)
         self.lock = threading.Lock()
         self.keeping: Keeping | None = None
         self.opened: list[float] = []
@@ -50,9 +52,16 @@ class KeptOffice:
         self.is_left = threading.Event()
 
     def say(self, *said: str) -> None:
+        at = int(time.time() * 1000)
         for text in said:
-            self.said.extend([text] if isinstance(text, Remark) else text.splitlines())
+            lines: list[str] = [text] if isinstance(text, Remark) else text.splitlines()
+            self.said.extend((line, at) for line in lines)
         self.tell("\n".join(said))
+
+    def words(self) -> list[Values]:
+        """What it said, as a page gets it: with the moment of each."""
+        said = list(self.said)
+        return [{**words, "at": at} for words, (_, at) in zip(remarks_of(text for text, _ in said), said)]
 
     def is_there(self) -> bool:
         """Whether the office lets clients in."""

@@ -125,6 +125,11 @@ def lines_before(text: str, ruling: str, facts: Facts, known: Entries) -> list[L
     return taken_out(old, facts.sheet.journal, Known(*known)) if old.kind in OUT and new.kind not in OUT else []
 
 
+def about(row: str) -> set[str]:
+    """The boat that a row of decisions.txt is about, with her race, as `GBR7 3`; nothing if it can't be read."""
+    return {f"{one.sail} {one.race}" for one in decision_lines.rulings_of(row)[0]}
+
+
 def take_out(folder: Folder, facts: Facts, row: str, known: Entries = NO_ENTRIES, is_begun: bool = False) -> Ruled:
     """What it takes to take a row out of decisions.txt. One that can't be read has no lines in the journal. If it
     `is_begun`, the row may have gone already."""

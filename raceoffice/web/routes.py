@@ -253,7 +253,7 @@ class Routes:
         shown = [{"mark": device.mark[:MARK], "role": device.role, "name": device.name,
                   "heard": int(at - device.heard), "unsent": device.unsent, "mine": device is mine}
                  for device in sorted(self.gate.devices.values(), key=lambda device: -device.heard)]
-        offices = [{"class": name, "said": remarks_of(one.office.said), "open": one.office.is_there(),
+        offices = [{"class": name, "said": one.office.words(), "open": one.office.is_there(),
                     "is_kept_here": one.office.keeping is not None}
                    for name, one in self.office.classes.items()]
         offices += [{"class": name, "said": remarks_of(one.said), "open": False, "is_kept_here": False}
@@ -416,20 +416,20 @@ class Routes:
         """Opens an office. What is asked before is answered by yes beforehand, or comes back."""
         office = self.office.classes[room.folder.name].office
         is_open = office.open(asked_of(request))
-        return reply_of({"open": is_open, "said": remarks_of(office.said)})
+        return reply_of({"open": is_open, "said": office.words()})
 
     def close(self, request: Request, room: Room) -> Reply:
         request.values()
         office = self.office.classes[room.folder.name].office
         is_ours = office.close()
-        return reply_of({"said": remarks_of(office.said), "open": not is_ours and office.is_there()})
+        return reply_of({"said": office.words(), "open": not is_ours and office.is_there()})
 
     def reopen(self, request: Request, room: Room) -> Reply:
         """Closes an office and opens it with the settings as they are now. What is asked before is answered by
         yes beforehand, or comes back."""
         office = self.office.classes[room.folder.name].office
         is_open = office.open_again_with_settings(asked_of(request))
-        return reply_of({"open": is_open, "said": remarks_of(office.said)})
+        return reply_of({"open": is_open, "said": office.words()})
 
     def rules(self, room: Room) -> Reply:
         """The settings of a class, and whether its office goes by them."""
@@ -459,7 +459,7 @@ class Routes:
         one.room.settle()
         copy = one.office.take_out(sail, device.name, asked_of(request))
         one.room.news()
-        return reply_of({"copy": copy, "open": one.office.is_there(), "said": remarks_of(one.office.said)})
+        return reply_of({"copy": copy, "open": one.office.is_there(), "said": one.office.words()})
 
     @staticmethod
     def sheet(room: Room, race: str) -> Reply:
@@ -512,7 +512,7 @@ class Routes:
         is_here = found and os.path.samefile(found.room.folder.path, path)
         office = (found if found and is_here else self.office.add(Folder(path))).office
         is_open = office.open(lambda _: False)
-        return reply_of({"class": os.path.basename(path), "open": is_open, "said": remarks_of(office.said)})
+        return reply_of({"class": os.path.basename(path), "open": is_open, "said": office.words()})
 
 
 def static_files() -> dict[str, tuple[str, bytes]]:

@@ -10,7 +10,6 @@ from collections.abc import Mapping, Sequence
 from dataclasses import replace
 from typing import Any
 
-from raceoffice.decisions.decision_lines import rulings_of
 from raceoffice.errors import NotSent
 from raceoffice.program.replay import Line
 from raceoffice.remarks import remark
@@ -93,7 +92,7 @@ class Decision:
         at = [id for id, _ in begun].index(self.tap.id)
         later = [lines for id, lines in begun[at + 1:] if "/" not in id]
         about = {" ".join(line.text.split()[2:0:-1]) for lines in later for line in lines}
-        if row.text == row.before or about & {f"{one.sail} {one.race}" for one in rulings_of(row.name)[0]}:
+        if row.text == row.before or about & preview.about(row.name):
             return True
         if not all(later):
             raise NotSent(preview.CHANGED)

@@ -16,7 +16,7 @@ from raceoffice.program.codes import OF_JURY
 from raceoffice.program.replay import Line
 from raceoffice.remarks import remark
 from raceoffice.series.folder import Folder
-from raceoffice.series.race_sheets import races_with_sheet, sheet_name
+from raceoffice.series.race_sheets import is_abandoned_since, races_with_sheet, sheet_name
 from raceoffice.series.read_list import bytes_of
 from raceoffice.series.sender import not_taken
 from raceoffice.session.sending import is_meant, transmit
@@ -156,11 +156,14 @@ class TimedTap:
             sheet.code(self.sail, "")
 
     def start(self, sheet: SheetOfRace) -> None:
-        """Gives the race its start. If it has another one by now than the device showed, that is asked."""
+        """Gives the race its start. If it has another one by now than the device showed, or was abandoned after the tap, that
+        is asked."""
         register, at, before, race = self.session.register, self.session.tap.at, sheet.starts, self.race.number
         text = self.rest[0] if self.rest else clock_text(self.folder, at)
         self.rest = [text]
         sheet.start(text, self.session.facts.boats)
+        if not before and is_abandoned_since(self.folder, race, at):
+            self.session.is_yes(self.session.question("start-abandoned", race=race, written=sheet.starts[0]))
         if before not in ([], sheet.starts) and not is_start_seen(register, race, before[0], self.session.tap, self.session.name):
             self.session.is_yes(self.session.question("start-since", race=race, start=before[0], written=sheet.starts[0]))
         by_clock_of_start(self.folder, register, race, sheet, at)

@@ -119,7 +119,7 @@ class Kills(Served):
         """The window is killed before each step, and in the middle of each write. If it had said that the
         place is kept, it is; and she is put into it once."""
         steps = self.each_step("window")
-        self.assertEqual([steps.count(name) for name in ("say", "sendall", "write")], [3, 4, 4], steps)
+        self.assertEqual([steps.count(name) for name in ("say", "sendall", "write")], [3, 5, 4], steps)
         for stop, step in enumerate(steps, 1):
             if step == "write":
                 with self.subTest(stop=stop):
@@ -147,7 +147,7 @@ class Kills(Served):
         self.lines, self.counted = UNDONE, ("undo",)
         for victim in ("window", "both"):
             steps = self.each_step(victim)
-            self.assertEqual([steps.count(name) for name in ("sendall", "write")], [3, 3], steps)
+            self.assertEqual([steps.count(name) for name in ("sendall", "write")], [4, 3], steps)
 
     def test_on_the_disk(self) -> None:
         """A line is on the disk before it is answered, and before what it speaks of is sent."""

@@ -345,6 +345,20 @@ class TwoClasses(WebTrial):
         self.assertEqual(self.journal()[-2:], ["JURY CLEAR 1 GBR7", "JURY REDRESS 1 GBR7 4.5"])
         self.need_no_faults()
 
+    def test_ticks(self) -> None:
+        """A boat of one class that was compared with the paper isn't compared in the other."""
+        desk = web_devices.Device(self.port, "scorer").come(self.links["scorer"], "Ada")
+        for name in self.classes:
+            desk.tap("FINISH 1 GBR33", name=name)
+        scorer = self.device("scorer", "Bea’s laptop")
+        for name, title, paper in (("cup", "Autumn Cup", "1 of 1"), ("fleet", "Folkboats", "0 of 1")):
+            scorer.click(f"#classes [data-key={name}]")
+            scorer.until(f"document.querySelector('#title').textContent === '{title}' && !!document.querySelector('.tick button')")
+            if name == "cup":
+                scorer.click(".tick button")
+            scorer.until(f"document.querySelector('.paper').textContent.startsWith('{paper}')", 20)
+        self.need_no_faults()
+
     def test_sent_again(self) -> None:
         """The jury looks at another class while a decision waits for the network: it is sent about its own."""
         desk = web_devices.Device(self.port, "scorer").come(self.links["scorer"], "Ada")

@@ -308,9 +308,9 @@ class Two(WebTrial):
     """Two classes at one line."""
     classes = {"cup": entries_of(BOATS[:14]), "fleet": entries_of([*FOLKBOATS, ["DEN-7", "Havlit", "B. Juhl"]])}
 
-    def phone_of_both(self) -> Device:
+    def phone_of_both(self, port: int = 0) -> Device:
         """A phone that records the first race of each."""
-        ann = self.phone()
+        ann = self.phone(port=port)
         for at in (0, 1):
             ann.until("document.querySelectorAll('.race').length === 2")
             ann.run(f"document.querySelectorAll('.race')[{at}].click()")
@@ -336,6 +336,24 @@ class Two(WebTrial):
         self.assertEqual(self.journal("fleet"), [*finishes("DEN-7"), "FINISH TIE 1 NED80 DEN-7", *finishes("SWE2"),
                                                  "FINISH TIE 1 GER19 SWE2"])
         self.need_no_faults()
+
+    def test_asked_of_each(self) -> None:
+        """A boat of each class has this sail: a question names the class, and her row in the other class doesn't open it."""
+        line = self.line()
+        ann, ben = self.phone_of_both(port=line.own), self.phone_of_both()
+        ann.tap("GBR33", "cup")
+        self.settle(ann)
+        line.cut()
+        ann.tap("GBR33", "fleet")
+        ben.tap("NED80", "fleet")
+        self.settle(ben)
+        line.mend()
+        ann.until("document.querySelector('#link').dataset.state === 'sending' || !!document.querySelector('dialog[open]')")
+        ann.until("document.querySelector('dialog[open] h2')?.textContent === 'Where did GBR 33 Folkboats finish?'", 30)
+        ann.run("document.querySelector('dialog[open]').end('')")
+        ann.click("#list li[data-key='cup GBR33'] button.finisher")
+        ann.until("document.querySelector('dialog[open] h2')?.textContent === 'GBR 33 Autumn Cup'", 30)
+        self.assertEqual(self.journal("cup"), finishes("GBR33"))
 
     def test_one_page_for_both(self) -> None:
         ann = self.phone_of_both()

@@ -159,6 +159,33 @@ class TimedCorrections(WebTrial):
                                                       "SCORER STRIKE 2 NED12"])
         self.need_no_faults()
 
+    def test_another_race_with_a_code(self) -> None:
+        """The elapsed time of a boat with a code goes with it, and isn't her time in the race that she leaves. A row of a boat
+        that isn't entered is named before, and stays."""
+        self.write("Sail,Start,Finish,Elapsed,Code\nGBR 101,14:00:00,15:00:00,,\nGBR 7,,,1:05:00,RET\nUSA 1,14:00:00,15:01:00,,\n",
+                   "cup", "times", "race-2.csv")
+        scorer = self.device("scorer", "Bea’s laptop")
+        scorer.click(".races [data-key='2']")
+        scorer.type("#typed", "times 2")
+        scorer.press("Send")
+        scorer.until("import('/office/static/desk.js').then(desk => desk.state().races[2]?.codes.GBR7 === 'RET')")
+        scorer.click("#other-race")
+        scorer.until("document.querySelector('dialog[open] .wrong')?.textContent === 'USA 1 isn’t entered: her row stays in times/race-2.csv.'")
+        self.assertEqual(scorer.texts("dialog[open] .field:first-of-type option"), ["GBR 101 Kestrel"])
+        scorer.choose("yes")
+        helpers.until("the other race", lambda: "SCORER STRIKE 2 GBR101" in self.journal())
+        self.settle_lines(scorer)
+        self.assertEqual([line for line in self.journal()[2:] if " 2 " in line], ["SCORER CLEAR 2 GBR7", "SCORER STRIKE 2 GBR101"])
+        self.assertEqual([line for line in self.journal()[2:] if " 1 " in line], [
+            "SCORER TIME 1 GBR101 3600", "SCORER TIME 1 GBR7 3510", "SCORER MARK 1 GBR7 RET", "SCORER STRIKE 1 GBR7"])
+        self.assertIn("GBR7,14:00:00,,RET,1:05:00", self.sheet(1))
+        self.assertEqual([row for row in self.sheet(2) if "GBR 7" in row or "USA" in row], ["GBR 7,,,,", "USA 1,14:00:00,15:01:00,,"])
+        self.need_no_faults()
+
+    def settle_lines(self, scorer: Device) -> None:
+        """Waits until a correction is done, and the page says so."""
+        scorer.until("!document.querySelector('dialog[open]') && document.querySelector('#said').textContent !== ''")
+
     def test_another_start(self) -> None:
         """A race with another start is asked about: from 14:10, GBR 7's 3,300 s x 0.900. The codes of a part stay."""
         self.write("Sail,Start,Finish\nFRA 9,14:10:00,14:40:00\n", "cup", "times", "race-1.csv")

@@ -52,6 +52,12 @@ class Times(Elsewhere):
         bea.choose("yes")
         bea.until("!!document.querySelector('#changed')")
         self.need_now(bea.text("#changed b").split()[0])
+        bea.click("#tab-office")
+        bea.until("document.querySelector('pre.linktext')?.textContent.includes('The office is open.')")
+        said = bea.text("pre.linktext").splitlines()
+        self.assertRegex(said[-1], r"^\d\d:\d\d:\d\d The office is open\.$")
+        for line in said:
+            self.need_now(line.split()[0])
         bea.click("#tab-results")
         bea.click("#declare-final")
         bea.choose("yes")

@@ -1,6 +1,6 @@
-use regatta_fixtures::{PLENTY, Streams, default_rules, handicap_rules, status_of};
 use regatta_office::Tape;
 use regatta_terms::{Entry, Rules};
+use regatta_trials::{PLENTY, Streams, default_rules, handicap_rules, status_of};
 use std::alloc::{AllocError, Global};
 use std::test::Fail;
 

@@ -1,13 +1,9 @@
 -- The replies to the lines of a session, and what each line changes.
-use Rattle.std.specs.Prelude.{◌≡◌, ◌⊎◌, ℕ, Bool, true, false, List, [], ◌∷◌, ◌++◌, None, All}
-use Rattle.std.specs.Prelude.{Result, Ok, Err}
+use Rattle.std.specs.Prelude.{◌≡◌, ◌⊎◌, ℕ, true, List, [], ◌∷◌, ◌++◌, None, Ok, Err, All}
 use mathlib.Core.List.{IsPrefix}
 use Rattle.regatta_terms.specs.Rules.{RulesParts}
 use Rattle.regatta_terms.specs.declared.command.Command.{Command}
 use Rattle.regatta_terms.specs.declared.command.Role.{Role}
-use Rattle.regatta_terms.specs.declared.line.Line.{Line}
-use Rattle.regatta_terms.specs.declared.line.Line.TheVariants.{Do, SetRole, Rank, Show, Quit}
-use Rattle.regatta_terms.specs.declared.line.LineFault.{LineFault}
 use Rattle.regatta_terms.specs.declared.reply.Refusal.{Refusal}
 use Rattle.regatta_terms.specs.declared.reply.Refusal.TheVariants.{NoMemory}
 use Rattle.regatta_terms.specs.declared.reply.Reply.{Reply}
@@ -21,20 +17,13 @@ use Rattle.regatta_board.specs.Refusals.{limits, refusal, is_lawful, IsRefusal}
 use Rattle.regatta_tables.specs.ReplyTexts.{reply_text}
 use Rattle.regatta_tables.specs.SheetTexts.{sheet_text}
 use Rattle.regatta_talk.specs.Replies.{ranked, reply_apart, reply_of}
+use Rattle.regatta_talk.specs.declared.asked.ApartLine.{ApartLine}
+use Rattle.regatta_talk.specs.declared.asked.AskedLine.{AskedLine}
+use Rattle.regatta_talk.specs.declared.asked.AskedLine.TheVariants.{Desk, Apart}
+use Rattle.regatta_talk.specs.declared.asked.DeskLine.{DeskLine}
+use Rattle.regatta_talk.specs.declared.asked.DeskLine.TheVariants.{Do, Rank}
 use Rattle.regatta_desk.specs.Desks.{DeskValue, desk_with}
 use Rattle.regatta_desk.specs.Passes.{PassValue, entry_of}
-use Rattle.regatta_desk.specs.declared.answers.Next.{Next}
-use Rattle.regatta_desk.specs.declared.answers.Next.TheVariants.{Go, End}
-
--- the lines that the desk answers: commands and RANK; a pass alone answers the others, and those that
--- can't be read
-abbrev pub is_for_desk : Result Line LineFault → Bool
-is_for_desk (Ok (Do command)) = true
-is_for_desk (Ok (Rank sail)) = true
-is_for_desk (Ok (SetRole role)) = false
-is_for_desk (Ok Show) = false
-is_for_desk (Ok Quit) = false
-is_for_desk (Err fault) = false
 
 -- ---- under the lock
 
@@ -59,18 +48,25 @@ pub record RefusedCommand (rules : RulesParts) (role : Role) (command : Command)
   pub pass : after ≡ before
   pub answered : reply ≡ reply_of (Err why)
 
--- the reply to a line that the desk answers, and what the line changes of desk and pass; nothing is
--- said of other lines
-abbrev pub DeskReplies : RulesParts → Line → Role → DeskValue → DeskValue → PassValue → PassValue
+-- the reply to a line that the desk answers, and what the line changes of desk and pass
+abbrev pub DeskReplies : RulesParts → DeskLine → Role → DeskValue → DeskValue → PassValue → PassValue
     → Reply → Type 0
 DeskReplies rules (Do command) role old new before after reply =
     RanCommand rules role command old new before after reply
     ⊎ RefusedCommand rules role command old new before after reply
 DeskReplies rules (Rank sail) role old new before after reply =
     (new ≡ old) × (after ≡ before) × (reply ≡ ranked (rank_of rules old.entries sail))
-DeskReplies rules (SetRole next) role old new before after reply = Unit {0}
-DeskReplies rules Show role old new before after reply = Unit {0}
-DeskReplies rules Quit role old new before after reply = Unit {0}
+
+-- the reply appended for such a line; for other lines nothing is done
+abbrev pub DeskAppends : RulesParts → AskedLine → Role → DeskValue → DeskValue → PassValue → PassValue
+    → List ℕ → List ℕ → Type 0
+DeskAppends rules (Desk line) role old new before after text longer =
+    (reply : Reply) × DeskReplies rules line role old new before after reply
+    × (longer ≡ text ++ reply_text reply)
+DeskAppends rules AskedLine.Show role old new before after text longer =
+    (new ≡ old) × (after ≡ before) × (longer ≡ text)
+DeskAppends rules (Apart line) role old new before after text longer =
+    (new ≡ old) × (after ≡ before) × (longer ≡ text)
 
 -- ---- by a pass alone
 
@@ -106,31 +102,19 @@ ShowsNone before after old new =
     (after ≡ before)
     × ((new ≡ old ++ reply_text Closed) ⊎ (new ≡ old ++ reply_text (Refused NoMemory)))
 
--- a line that is answered by its reply alone: the pass is as it was
-abbrev pub RepliesApart : Result Line LineFault → PassValue → PassValue → List ℕ → List ℕ → Type 0
-RepliesApart asked before after old new =
-    (after ≡ before) × (new ≡ old ++ reply_text (reply_apart asked))
-
--- the text appended for a line that a pass answers alone, and what the line changes of the pass;
--- nothing is said of other lines
-abbrev pub PassReplies : RulesParts → Result Line LineFault → PassValue → PassValue → List ℕ
-    → List ℕ → Type 0
-PassReplies rules (Ok Show) before after old new =
+-- the text appended for SHOW, and what it changes of the pass
+abbrev pub Shows : RulesParts → PassValue → PassValue → List ℕ → List ℕ → Type 0
+Shows rules before after old new =
     ShowsSheet rules before after old new
     ⊎ (SawSheet rules before after old new ⊎ ShowsNone before after old new)
-PassReplies rules (Ok (SetRole role)) before after old new =
-    RepliesApart (Ok (SetRole role)) before after old new
-PassReplies rules (Ok Quit) before after old new = RepliesApart (Ok Quit) before after old new
-PassReplies rules (Err fault) before after old new =
-    RepliesApart (Err fault) before after old new
-PassReplies rules (Ok (Do command)) before after old new = Unit {0}
-PassReplies rules (Ok (Rank sail)) before after old new = Unit {0}
 
--- QUIT is the last line
-abbrev pub next_after : Result Line LineFault → Next
-next_after (Ok Quit) = End
-next_after (Ok (Do command)) = Go
-next_after (Ok (SetRole role)) = Go
-next_after (Ok (Rank sail)) = Go
-next_after (Ok Show) = Go
-next_after (Err fault) = Go
+-- a line that asks nothing of the board: the pass is as it was
+abbrev pub RepliesApart : ApartLine → PassValue → PassValue → List ℕ → List ℕ → Type 0
+RepliesApart line before after old new =
+    (after ≡ before) × (new ≡ old ++ reply_text (reply_apart line))
+
+-- the text appended for a line by a pass without the desk; for the desk's lines nothing is done
+abbrev pub PassAppends : RulesParts → AskedLine → PassValue → PassValue → List ℕ → List ℕ → Type 0
+PassAppends rules (Desk line) before after old new = (after ≡ before) × (new ≡ old)
+PassAppends rules AskedLine.Show before after old new = Shows rules before after old new
+PassAppends rules (Apart line) before after old new = RepliesApart line before after old new

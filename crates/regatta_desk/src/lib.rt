@@ -12,11 +12,12 @@ mod receipt;
 mod sheet;
 mod told;
 
-pub use answers::{Next, answer_alone, answer_show};
+pub use answers::{answer_alone, answer_show};
 pub use desk::Desk;
 pub use office::{Office, Opened};
 pub use opening::OpenFault;
 pub use pass::Pass;
 pub use receipt::Receipt;
+pub use regatta_talk::Next;
 pub use regatta_watch::{Note, OfficeName, ShowFault};
 pub use sheet::Sheet;

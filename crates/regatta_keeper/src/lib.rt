@@ -24,6 +24,3 @@ pub use need::{Need, NotKept};
 pub use outlet::Outlet;
 pub use reply_room::ReplyRoom;
 pub use sealed::{CoveredReply, Sealed};
-
-#[cfg(test)]
-mod tests;

@@ -1,5 +1,5 @@
 //! Room for the replies of a session.
-ghost use Rattle.std.specs.Prelude.{◌≡◌, []};
+ghost use Rattle.std.specs.Prelude.{◌≡◌};
 ghost use Rattle.regatta_keeper.specs.Sealing.{text_of};
 
 use regatta_talk::{make_room, write_fitting};
@@ -44,17 +44,7 @@ impl ReplyRoom {
         &self.text
     }
 
-    /// The room without bytes.
-    pub(crate) fn emptied(self) -> ReplyRoom
-        ensures { result ≡ [] }
-    {
-        let ReplyRoom { text } = self;
-        let mut text = text;
-        text.clear();
-        ReplyRoom { text }
-    }
-
-    /// With the text of the desk's reply, if there is one, in place of the bytes.
+    /// With the text of this reply, if there is one, in place of the bytes.
     pub(crate) fn with_text_of(self, reply: Option<Reply>) -> ReplyRoom
         ensures { result ≡ text_of self reply }
     {

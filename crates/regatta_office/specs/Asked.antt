@@ -13,7 +13,7 @@ use Rattle.regatta_board.specs.Refusals.{limits, is_lawful}
 use Rattle.regatta_tables.specs.EntryLists.{entries_of_text}
 use Rattle.regatta_tables.specs.JournalFiles.{journal_of}
 use Rattle.regatta_tables.specs.TableTexts.{table_text}
-use Rattle.regatta_office.specs.declared.start_files.TheConstants.{FILE_LIMIT}
+use Rattle.regatta_arguments.specs.declared.texts.TheConstants.{TEXT_LIMIT}
 use Rattle.regatta_office.specs.declared.form.Form.{Form}
 use Rattle.regatta_keep.specs.WholeLines.{recovery, torn_part}
 use Rattle.regatta_office.specs.KeptStarts.{IsKeptStart}
@@ -49,13 +49,13 @@ pub record ServingAsked : Type 0 where
 abbrev pub IsJournalAt : Option (List ℕ) → Journal → Type 0
 IsJournalAt None journal = journal ≡ []
 IsJournalAt (Some path) journal =
-    (text : List ℕ) × (length text ≤ FILE_LIMIT) × (journal_of text ≡ Ok journal)
+    (text : List ℕ) × (length text ≤ TEXT_LIMIT) × (journal_of text ≡ Ok journal)
 
 -- the sails of an entry list, likewise
 abbrev pub AreSailsAt : Option (List ℕ) → List (List ℕ) → Type 0
 AreSailsAt None sails = sails ≡ []
 AreSailsAt (Some path) sails =
-    (text : List ℕ) × (length text ≤ FILE_LIMIT) × (entries_of_text text ≡ Ok sails)
+    (text : List ℕ) × (length text ≤ TEXT_LIMIT) × (entries_of_text text ≡ Ok sails)
 
 -- what a series starts with: the rules of its texts, and the entries of the journal file followed
 -- by those of the entry list

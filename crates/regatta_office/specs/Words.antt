@@ -1,37 +1,24 @@
 -- What the words of the program ask for, as `clap` reads them.
-use Rattle.std.specs.Prelude.{◌≡◌, ◌⊎◌, Bool, true, false, List, [], ◌∷◌, Option, Some, None, map, codes}
+use Rattle.std.specs.Prelude.{◌≡◌, Bool, List, [], ◌∷◌, Option, Some, None, map, codes}
 use Rattle.std.specs.Prelude.{ℕ, option_map, if◌then◌else◌}
 use Rattle.std.specs.Borrow.{Bor}
 use Rattle.std.specs.Str.{bytes_eq}
 use Rattle.std.specs.Str.Parse.{digits_value, without_leading_plus}
-use Rattle.clap.specs.Words.{App, IsAmong, Row, Rule, Text, fault_of, first_of, new_app, new_rule}
-use Rattle.clap.specs.Words.{subcommand_of, with_rule, with_subcommand}
-use Rattle.clap.specs.declared.builder.action.ArgAction.TheVariants.{SetTrue}
+use Rattle.clap.specs.Words.{App, Row, Rule, Text, first_of, new_app, subcommand_of, with_rule}
+use Rattle.clap.specs.Words.{with_subcommand}
 use Rattle.clap.specs.declared.builder.value_parser.ValueParser.{ValueParser}
 use Rattle.clap.specs.declared.builder.value_parser.ValueParser.TheVariants.{Names, Unsigned}
-use Rattle.clap.specs.declared.error.kind.ErrorKind.{ErrorKind}
-use Rattle.clap.specs.declared.error.kind.ErrorKind.TheVariants.{DisplayHelp, DisplayVersion}
 use Rattle.regatta_terms.specs.declared.limits.TheConstants.{MAX_SEATS}
+use Rattle.regatta_arguments.specs.Options.{bare_program, flag, is_given, option, option_or}
+use Rattle.regatta_arguments.specs.Options.{required}
 use Rattle.regatta_office.specs.Asked.{ReplayAsked, Series, ServingAsked}
 use Rattle.regatta_office.specs.declared.options.Asked.{Asked}
-use Rattle.regatta_office.specs.declared.options.Asked.TheVariants.{Replay, Serve}
+use Rattle.regatta_office.specs.declared.options.Asked.TheVariants.{Replay, Serve, Words}
 use Rattle.regatta_office.specs.declared.options.TheConstants.{MOST_SESSIONS}
 use Rattle.regatta_office.specs.declared.form.Form.{Form}
 use Rattle.regatta_office.specs.declared.form.Form.TheVariants.{Table, Csv, Journal}
 
 -- ---- the words that the program knows
-
--- an option without a value
-abbrev pub flag : Text → Rule
-flag name = record (new_rule name) { long = Some name; action = Some SetTrue }
-
--- an option that takes one value
-abbrev pub option : Text → Rule
-option name = record (new_rule name) { long = Some name; value_names = 1 }
-
--- the same, with a default
-abbrev pub option_or : Text → Text → Rule
-option_or name value = record (option name) { defaults = value ∷ [] }
 
 -- an option that takes a number from `least` to `most`, with a default
 abbrev pub number_option : Text → Text → ℕ → ℕ → Rule
@@ -63,7 +50,7 @@ with_start app = with_rule (with_rule app (option (codes "journal"))) (option (c
 -- no end
 unfoldable pub with_seats : App → App
 with_seats app =
-    with_rule (with_rule (with_rule app (record (option (codes "socket")) { required = true }))
+    with_rule (with_rule (with_rule app (required (codes "socket")))
     (number_option (codes "clients") (codes "4") 1 MAX_SEATS))
     (number_option (codes "sessions") (codes "0") 0 MOST_SESSIONS)
 
@@ -77,22 +64,16 @@ abbrev pub serve : App
 serve = with_rule (with_seats (with_start (with_rules (new_app (codes "serve")))))
     (option (codes "keep"))
 
--- the program has no option of its own besides its help and its version, and needs a subcommand
-abbrev pub bare_program : App
-bare_program =
-    let app = new_app (codes "regatta") in
-    record app { top = record app.top { no_binary_name = true; subcommand_required = true; has_version = true } }
+-- the subcommand `words`, which has no options
+abbrev pub words : App
+words = new_app (codes "words")
 
--- the whole program: with its two subcommands
+-- the whole program: with its three subcommands
 unfoldable pub regatta : ValueParser → App
-regatta forms = with_subcommand (with_subcommand bare_program (replay forms).top) serve.top
+regatta forms = with_subcommand (with_subcommand (with_subcommand (bare_program (codes "regatta"))
+    (replay forms).top) serve.top) words.top
 
 -- ---- what words ask for
-
--- whether a flag is given, from the text that `clap` has for it
-abbrev pub is_given : Option Text → Bool
-is_given (Some word) = bytes_eq word (codes "true")
-is_given None = false
 
 -- the series, from the values that the arguments or the defaults give
 abbrev pub series_by : Option Text → Option Text → Option Text → Bool → Option Text → Option Text
@@ -153,30 +134,10 @@ abbrev pub asked_by : Option (Text × List Row) → Option Asked
 asked_by (Some (name, rows)) =
     let value = λ (option : Text). first_of option rows in
     if bytes_eq name (codes "replay") then option_map Replay (replay_with value)
-    else if bytes_eq name (codes "serve") then option_map Serve (serving_with value) else None
+    else if bytes_eq name (codes "serve") then option_map Serve (serving_with value)
+    else if bytes_eq name (codes "words") then Some Words else None
 asked_by None = None
 
 -- the run that the options of words ask for
 abbrev pub asked_of : ValueParser → List Text → Option Asked
 asked_of forms words = asked_by (subcommand_of (regatta forms) words)
-
--- words ask for this run: `clap` finds no fault in them, and their options mean this run
-pub record AskRun (forms : ValueParser) (words : List Text) (asked : Asked) : Type 0 where
-  pub faultless : fault_of (regatta forms) words ≡ []
-  pub asks : asked_of forms words ≡ Some asked
-
--- words ask for help
-abbrev pub AskHelp : ValueParser → List Text → Type 0
-AskHelp forms words = IsAmong DisplayHelp (fault_of (regatta forms) words)
-
--- words ask for the version
-abbrev pub AskVersion : ValueParser → List Text → Type 0
-AskVersion forms words = IsAmong DisplayVersion (fault_of (regatta forms) words)
-
--- words ask for one of these texts
-abbrev pub AskText : ValueParser → List Text → Type 0
-AskText forms words = AskHelp forms words ⊎ AskVersion forms words
-
--- the kinds by which `clap` gives these texts
-abbrev pub IsText : ErrorKind → Type 0
-IsText kind = (kind ≡ DisplayHelp) ⊎ (kind ≡ DisplayVersion)

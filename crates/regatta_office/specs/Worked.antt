@@ -5,7 +5,7 @@ use Rattle.regatta_terms.specs.Lines.{line_of, line_of_words, command_of_words}
 use Rattle.regatta_terms.specs.Rules.{RulesParts}
 use Rattle.regatta_terms.specs.declared.rules.Absent.TheVariants.{A52}
 use Rattle.regatta_tables.specs.Examples.{Gives}
-use Rattle.regatta_office.specs.declared.start_files.TheConstants.{FILE_LIMIT}
+use Rattle.regatta_arguments.specs.declared.texts.TheConstants.{TEXT_LIMIT}
 use Rattle.regatta_office.specs.declared.form.Form.TheVariants.{Table, Journal}
 use Rattle.regatta_office.specs.declared.run.TheConstants.{INPUT_LIMIT}
 use Rattle.regatta_office.specs.Transcript.{replies, talk_at_end, up_to_quit, run_text}
@@ -27,7 +27,7 @@ abbrev run : List ℕ → List ℕ
 run text = run_text default_rules [] Table text
 
 -- the limits: the bytes of an input that are answered, and the bytes of a start file
-pub bytes_at_most : (INPUT_LIMIT ≡ 1048576) × (FILE_LIMIT ≡ 1048576)
+pub bytes_at_most : (INPUT_LIMIT ≡ 1048576) × (TEXT_LIMIT ≡ 1048576)
 bytes_at_most = (refl, refl)
 
 pub runs : Gives run

@@ -10,7 +10,7 @@ ghost use Rattle.regatta_office.specs.Turns.{journal_after, reply_to, talk_after
 
 use crate::shown::Shown;
 use regatta_board::{REPLAY_SEAT, next_entry};
-use regatta_talk::{answer_apart, make_room, ranked, reply_of, write_fitting};
+use regatta_talk::{ApartLine, answer_apart, make_room, ranked, reply_of, write_fitting};
 use regatta_terms::{Command, Entry, Line, LineFault, Refusal, Reply, Role, Sail};
 use std::alloc::AllocError;
 
@@ -99,8 +99,8 @@ fn answer_line(
         Line::Do(command) => answer_command(board, *role, command, out),
         Line::Rank(sail) => answer_rank(board, sail, out),
         Line::Show => board.show(out),
-        Line::SetRole(next) => answer_apart(role, Ok(Line::SetRole(next)), out),
-        Line::Quit => answer_apart(role, Ok(Line::Quit), out),
+        Line::SetRole(next) => answer_apart(role, ApartLine::SetRole(next), out),
+        Line::Quit => answer_apart(role, ApartLine::Quit, out),
     }
 }
 
@@ -122,7 +122,7 @@ pub(crate) fn answer(
 {
     match asked {
         Ok(line) => answer_line(board, role, line, out),
-        Err(fault) => answer_apart(role, Err(fault), out),
+        Err(fault) => answer_apart(role, ApartLine::Fault(fault), out),
     }
 }
 

@@ -1,98 +1,25 @@
 //! The program, from its command line to its status.
-ghost use Rattle.std.specs.Prelude.{◌≡◌, ◌≢◌, ◌⊎◌, ℕ, List, OnOk, map};
+ghost use Rattle.std.specs.Prelude.{◌≡◌, ◌⊎◌, ℕ, List, OnOk, map};
 ghost use Rattle.std.specs.Io.KnownBytes.{Appends};
-ghost use Rattle.clap.specs.Words.{kind_of};
 ghost use Rattle.clap.specs.declared.builder.value_parser.ValueParser.{ValueParser};
+ghost use Rattle.regatta_arguments.specs.Asking.{AskRun, AskText};
 ghost use Rattle.regatta_office.specs.Asked.{IsReplayOf};
 ghost use Rattle.regatta_office.specs.Runs.{AtMostRunOf, IsRunOf};
-ghost use Rattle.regatta_office.specs.Words.{AskRun, AskText, IsText, TakesForms};
+ghost use Rattle.regatta_office.specs.Words.{TakesForms, asked_by, regatta};
 
 use crate::clients::serve_series;
 use crate::complaint::Complaint;
 use crate::options::{Asked, ReplayOptions, options_of};
 use crate::run::replay;
 use crate::series::beginning_of;
-use clap::error::ErrorKind;
-use regatta_streams::{Sink, Source, write_all};
-use std::alloc::Global;
+use crate::vocabulary::print_words;
+use regatta_arguments::{answer_arguments, complain, no_command};
+use regatta_streams::{Sink, Source};
 use std::fs::{File, Files};
 use std::net::{Net, TcpListener, TcpStream};
 use std::sync::Wait;
 use std::thread::Threads;
 use std::time::Clock;
-
-/// The status for arguments that the program doesn't take.
-const BAD_WORDS: u8 = 2;
-
-/// Writes to standard error why the program stops, and returns its status.
-fn complain<E: Sink>(alloc: Global, errors: &mut E, complaint: Complaint) -> u8
-    ensures { result ≢ 0 }
-{
-    let Ok(text) = format!(in alloc; "{complaint}\n") else {
-        let _ = write_all(errors, b"regatta: no memory\n");
-        return Complaint::NoMemory.status();
-    };
-    match write_all(errors, text.as_bytes()) {
-        Ok(()) => complaint.status(),
-        Err(_) => Complaint::Device.status(),
-    }
-}
-
-/// Writes the help or the version, which was asked for, and returns the program's status.
-fn write_text<W: Sink, E: Sink>(
-    alloc: Global,
-    error: &clap::Error,
-    output: &mut W,
-    errors: &mut E,
-) -> u8
-    ensures done { result ≡ 0 → (text : List ℕ)
-        × Appends (W.contents output.old) (W.contents output.new) text }
-    ensures at_most { (output.new ≡ output.old) ⊎ ((text : List ℕ)
-        × Appends (W.contents output.old) (W.contents output.new) text) }
-{
-    let Ok(text) = format!(in alloc; "{error}") else {
-        return complain(alloc, errors, Complaint::NoMemory);
-    };
-    match write_all(output, text.as_bytes()) {
-        Ok(()) => 0,
-        Err(_) => complain(alloc, errors, Complaint::Device),
-    }
-}
-
-/// Writes to standard error why the arguments aren't taken, and returns the program's status.
-fn refuse<E: Sink>(alloc: Global, error: &clap::Error, errors: &mut E) -> u8
-    ensures { result ≢ 0 }
-{
-    let Ok(text) = format!(in alloc; "{error}") else {
-        return complain(alloc, errors, Complaint::NoMemory);
-    };
-    match write_all(errors, text.as_bytes()) {
-        Ok(()) => BAD_WORDS,
-        Err(_) => Complaint::Device.status(),
-    }
-}
-
-/// Answers arguments that ask for no run: with the help or the version that they ask for, or with
-/// what `clap` says of arguments that it doesn't take.
-fn answer_words<W: Sink, E: Sink>(
-    alloc: Global,
-    error: &clap::Error,
-    output: &mut W,
-    errors: &mut E,
-) -> u8
-    ensures done { result ≡ 0 → IsText (kind_of error.now) × ((text : List ℕ)
-        × Appends (W.contents output.old) (W.contents output.new) text) }
-    ensures at_most { (output.new ≡ output.old) ⊎ (IsText (kind_of error.now)
-        × ((text : List ℕ) × Appends (W.contents output.old) (W.contents output.new) text)) }
-{
-    match error.kind() {
-        ErrorKind::DisplayHelp | ErrorKind::DisplayVersion => {
-            write_text(alloc, error, output, errors)
-        }
-        ErrorKind::OutOfMemory => complain(alloc, errors, Complaint::NoMemory),
-        _ => refuse(alloc, error, errors),
-    }
-}
 
 /// Replays the input as a run of the series, with the final part in the form asked for.
 fn replay_series<H: Files + AllocGlobal, R: Source, W: Sink>(
@@ -137,6 +64,7 @@ where
     match asked {
         Asked::Replay(options) => replay_series(rt, options, input, output),
         Asked::Serve(options) => serve_series(rt, options, output, errors),
+        Asked::Words => print_words(rt.alloc(), output),
     }
 }
 
@@ -144,7 +72,7 @@ where
 ///
 /// `replay` answers the lines of the input and prints the final table, CSV or journal. `serve`
 /// answers the lines of clients at a new Unix socket, side by side. It prints the final table after
-/// the door has closed.
+/// the door has closed. `words` prints the vocabulary.
 ///
 /// `--absent`, `--scp`, `--exclude` and `--handicap` are the series rules (RRS A5.2 and A5.3,
 /// 44.3(c), A2.1, A3). `--journal` and `--entries` name files to start from. `--print` is the form
@@ -178,31 +106,35 @@ where
     // fault in them, and the whole run that they ask for is written, with the defaults for what they
     // leave out.
     ensures done { result ≡ 0 → (forms : ValueParser) × TakesForms forms
-        × ((AskText forms (map (λ word. word.now) words.now) × (input.new ≡ input.old)
+        × ((AskText (regatta forms) (map (λ word. word.now) words.now) × (input.new ≡ input.old)
         × ((text : List ℕ) × Appends (W.contents output.old) (W.contents output.new) text))
-        ⊎ ((asked : _) × AskRun forms (map (λ word. word.now) words.now) asked
+        ⊎ ((asked : _) × AskRun (regatta forms) asked_by (map (λ word. word.now) words.now)
+        asked
         × IsRunOf R.remaining asked input.old input.new (W.contents output.old)
         (W.contents output.new))) }
 
     // Whatever the status, nothing is written; or help or the version, which the arguments ask for;
     // or at most what the run that they ask for may write: of `serve`, the table.
     ensures at_most { (output.new ≡ output.old) ⊎ ((forms : ValueParser) × TakesForms forms
-        × ((AskText forms (map (λ word. word.now) words.now)
+        × ((AskText (regatta forms) (map (λ word. word.now) words.now)
         × ((text : List ℕ) × Appends (W.contents output.old) (W.contents output.new) text))
-        ⊎ ((asked : _) × AskRun forms (map (λ word. word.now) words.now) asked
+        ⊎ ((asked : _) × AskRun (regatta forms) asked_by (map (λ word. word.now) words.now)
+        asked
         × AtMostRunOf asked (W.contents output.old) (W.contents output.new)))) }
 {
     let alloc = rt.alloc();
-    let asked = match options_of(alloc, words) {
+    let asked = match options_of(alloc, &*words) {
         Ok(asked) => asked,
-        Err(error) => return answer_words(alloc, &error, output, errors),
+        Err(error) => return answer_arguments(alloc, "regatta", &error, output, errors),
     };
     let Some(asked) = asked else {
-        let _ = write_all(errors, b"error: no command\n");
-        return BAD_WORDS;
+        return no_command(errors);
     };
     match run(rt, &asked, input, output, errors) {
         Ok(()) => 0,
-        Err(complaint) => complain(alloc, errors, complaint),
+        Err(complaint) => {
+            let status = complaint.status();
+            complain(alloc, "regatta", &complaint, status, errors)
+        }
     }
 }

@@ -5,15 +5,14 @@ ghost use Rattle.regatta_office.specs.Complaints.{status_of, keep_fault_text as 
 use crate::kept_start::KeptStartFault;
 use crate::run::RunFault;
 use crate::scribe::ScribeFault;
+use regatta_arguments::Stop;
 use regatta_desk::OpenFault;
 use regatta_keep::{Cause, OpenFault as KeepOpenFault, RecoverFault};
 use regatta_keeper::KeeperFault;
 use regatta_service::{DoorFault, ServeFault};
-use regatta_streams::ReadFault;
 use regatta_tables::{EntriesFault, JournalFault};
 use regatta_terms::RulesFault;
 use std::alloc::AllocError;
-use std::io::ErrorKind;
 use thiserror::Error;
 
 /// Why the program stops early. Its text is what the program says on standard error.
@@ -101,16 +100,6 @@ impl From<AllocError> for Complaint {
     }
 }
 
-/// The complaint about a file that can't be opened.
-impl From<ErrorKind> for Complaint {
-    fn from(kind: ErrorKind) -> Complaint {
-        match kind {
-            ErrorKind::OutOfMemory => Complaint::NoMemory,
-            _ => Complaint::Device,
-        }
-    }
-}
-
 impl From<RulesFault> for Complaint {
     fn from(fault: RulesFault) -> Complaint {
         Complaint::Rules {
@@ -119,12 +108,12 @@ impl From<RulesFault> for Complaint {
     }
 }
 
-impl From<ReadFault> for Complaint {
-    fn from(fault: ReadFault) -> Complaint {
-        match fault {
-            ReadFault::Stream => Complaint::Device,
-            ReadFault::TooLong => Complaint::TooLong,
-            ReadFault::NoMemory => Complaint::NoMemory,
+impl From<Stop> for Complaint {
+    fn from(stop: Stop) -> Complaint {
+        match stop {
+            Stop::TooLong => Complaint::TooLong,
+            Stop::Device => Complaint::Device,
+            Stop::NoMemory => Complaint::NoMemory,
         }
     }
 }
@@ -209,12 +198,9 @@ impl From<KeepOpenFault> for Complaint {
 
 /// The complaint about a fault in the lines of a kept file.
 fn kept_journal(fault: JournalFault) -> Complaint {
-    match fault.line() {
-        Some(line) => Complaint::KeepJournal {
-            number: fault.number(),
-            line,
-        },
-        None => Complaint::NoMemory,
+    match Complaint::from(fault) {
+        Complaint::Journal { number, line } => Complaint::KeepJournal { number, line },
+        other => other,
     }
 }
 

@@ -1,27 +1,26 @@
 //! The options of the program.
-ghost use Rattle.std.specs.Prelude.{◌≡◌, false, true, map, IfOk, IfErr, IfSome};
+ghost use Rattle.std.specs.Prelude.{◌≡◌, false, map, IfOk, IfErr, IfSome, Some};
 ghost use Rattle.std.specs.Option.{option_copied};
 ghost use Rattle.clap.specs.Words.{app_of, first_value, found_of, kind_of, rule_of};
 ghost use Rattle.clap.specs.Words.{subcommand_rows_of};
 ghost use Rattle.clap.specs.declared.builder.command.Command.TheViews.{out-Command};
 ghost use Rattle.clap.specs.declared.builder.value_parser.ValueParser.{ValueParser};
-ghost use Rattle.regatta_office.specs.Words.{AskRun, AskText, IsText, TakesForms, asked_by, number_by};
-ghost use Rattle.regatta_office.specs.Words.{flag as flag_of, is_given as is_given_by};
+ghost use Rattle.regatta_arguments.specs.Asking.{AskRun, AskText, IsText};
+ghost use Rattle.regatta_office.specs.Words.{TakesForms, asked_by, number_by};
 ghost use Rattle.regatta_office.specs.Words.{form_by, form_option as form_option_of};
 ghost use Rattle.regatta_office.specs.Words.{number_option as number_option_of, replay_with};
 ghost use Rattle.regatta_office.specs.Words.{serve as serve_of, serving_with};
 ghost use Rattle.regatta_office.specs.Words.{with_seats as with_seats_of};
-ghost use Rattle.regatta_office.specs.Words.{option as option_of, option_or as option_or_of};
 ghost use Rattle.regatta_office.specs.Words.{regatta as regatta_of, replay as replay_of};
 ghost use Rattle.regatta_office.specs.Words.{series_by, series_with};
-ghost use Rattle.regatta_office.specs.Words.{with_rules as with_rules_of};
+ghost use Rattle.regatta_office.specs.Words.{with_rules as with_rules_of, words as words_of};
 ghost use Rattle.regatta_office.specs.Words.{with_start as with_start_of};
 
 use crate::form::Form;
 use clap::builder::ValueParser;
-use clap::{Arg, ArgAction, ArgMatches, Command, Error};
+use clap::{Arg, ArgMatches, Command, Error};
+use regatta_arguments::{bare_program, flag, is_given, option, option_or};
 use regatta_terms::MAX_SEATS;
-use regatta_version::VERSION;
 use std::alloc::{AllocError, Global};
 use std::marker::Model;
 
@@ -107,6 +106,8 @@ pub(crate) enum Asked<'a> {
     Replay(ReplayOptions<'a>),
     /// To serve clients at a socket.
     Serve(ServeOptions<'a>),
+    /// To print the vocabulary.
+    Words,
 }
 
 /// What the help says of the program.
@@ -123,6 +124,12 @@ static SERVE: &str =
     "Answers lines such as FINISH 1 GBR7 of clients at a new Unix socket, side by side (SHOW gives \
     the journal and the table). Example: regatta serve --socket race.sock --sessions 3 --entries \
     boats.csv, and in a second terminal nc -U race.sock";
+
+/// What the help says of `words`.
+static WORDS: &str =
+    "Prints the vocabulary as JSON: codes and penalties with their meanings, roles and the lines \
+    that each may send, refusals and faults with numbers and sentences, and the limits. Example: \
+    regatta words > words.json";
 
 static ABSENT: &str =
     "What boats score that did not start or finish, retired or were disqualified: \
@@ -167,42 +174,6 @@ static SESSIONS: &str = "After how many clients serving ends and the table is pr
 static KEEP: &str = "The file that keeps the journal: each reply is written once all that it was \
     made from is on the disk, so nothing that was answered is lost in a crash. The file is made if \
     it isn't there, and the same command goes on from it. Example: --keep saturday.journal";
-
-/// An option without a value.
-fn flag<'a>(alloc: Global, name: &'a str, help: &'a str) -> Arg<'a>
-    ensures rule { rule_of result ≡ flag_of name.now }
-    ensures local { result.global ≡ false }
-{
-    Arg::new(alloc, name)
-        .long(name)
-        .action(ArgAction::SetTrue)
-        .help(help)
-}
-
-/// An option that takes one value.
-fn option<'a>(alloc: Global, name: &'a str, value: &'a str, help: &'a str) -> Arg<'a>
-    ensures rule { rule_of result ≡ option_of name.now }
-    ensures local { result.global ≡ false }
-{
-    Arg::new(alloc, name)
-        .long(name)
-        .value_name(value)
-        .help(help)
-}
-
-/// An option that takes one value and has a default.
-fn option_or<'a>(
-    alloc: Global,
-    name: &'a str,
-    value: &'a str,
-    default: &'a str,
-    help: &'a str,
-) -> Arg<'a>
-    ensures rule { rule_of result ≡ option_or_of name.now default.now }
-    ensures local { result.global ≡ false }
-{
-    option(alloc, name, value, help).default_value(default)
-}
 
 /// The option of the final part.
 fn form_option<'a>(alloc: Global) -> Arg<'a>
@@ -291,19 +262,23 @@ fn serve<'a>(alloc: Global) -> Result<Command<'a>, AllocError>
     Ok(command)
 }
 
+/// `words`, which has no options.
+fn words<'a>(alloc: Global) -> Command<'a>
+    ensures app { app_of result ≡ words_of }
+    ensures local { (out-Command result).has_globals ≡ false }
+{
+    Command::new(alloc, "words").about(WORDS)
+}
+
 /// All that the program understands.
 fn regatta<'a>(alloc: Global) -> Result<Command<'a>, AllocError>
     ensures { IfOk result (λ c. (forms : ValueParser) × TakesForms forms
         × (app_of c ≡ regatta_of forms)) }
 {
-    let command = Command::new(alloc, "regatta")
-        .about(ABOUT)
-        .version(VERSION)
-        .no_binary_name(true)
-        .subcommand_required(true)
-        .bin_name("regatta")?;
+    let command = bare_program(alloc, "regatta", ABOUT)?;
     let command = command.subcommand(replay(alloc)?)?;
     let command = command.subcommand(serve(alloc)?)?;
+    let command = command.subcommand(words(alloc))?;
     Ok(command)
 }
 
@@ -322,16 +297,6 @@ fn form_of(word: Option<&str>) -> Form
             Form::Table
         }
         None => Form::Table,
-    }
-}
-
-/// Whether a flag is given: `clap` has the text `true` for it then.
-fn is_given(flag: Option<&str>) -> bool
-    ensures { result ≡ is_given_by (option_copied flag.entry) }
-{
-    match flag {
-        Some(word) => word == "true",
-        None => false,
     }
 }
 
@@ -418,9 +383,12 @@ fn run_asked<'a>(matches: &ArgMatches<'a>) -> Option<Asked<'a>>
         let replay = replay_asked(options)?;
         return Some(Asked::Replay(replay));
     }
-    let options = matches.subcommand_matches("serve")?;
-    let serving = serving_asked(options)?;
-    Some(Asked::Serve(serving))
+    if let Some(options) = matches.subcommand_matches("serve") {
+        let serving = serving_asked(options)?;
+        return Some(Asked::Serve(serving));
+    }
+    let _options = matches.subcommand_matches("words")?;
+    Some(Asked::Words)
 }
 
 /// What the arguments ask for. `clap` accepts none without a subcommand.
@@ -434,10 +402,11 @@ pub(crate) fn options_of<'a>(
     words: &'a [&'a str],
 ) -> Result<Option<Asked<'a>>, Error>
     ensures asked { IfOk result (λ asked. (forms : ValueParser) × TakesForms forms
-        × IfSome asked (AskRun forms (map (λ word. word.now) words.entry.now))) }
+        × IfSome asked (AskRun (regatta_of forms) asked_by
+        (map (λ word. word.now) words.entry.now))) }
     ensures text { IfErr result (λ e. IsText (kind_of e) →
         (forms : ValueParser) × TakesForms forms
-        × AskText forms (map (λ word. word.now) words.entry.now)) }
+        × AskText (regatta_of forms) (map (λ word. word.now) words.entry.now)) }
 {
     let Ok(command) = regatta(alloc) else {
         return Err(Error::from(AllocError));

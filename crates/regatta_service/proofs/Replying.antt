@@ -12,7 +12,7 @@ use Rattle.regatta_keeper.specs.Sealing.{IsMet, IsNoted, Needs}
 use Rattle.regatta_keeper.specs.declared.need.Need.{Need}
 use Rattle.regatta_keeper.specs.declared.need.Need.TheVariants.{Nothing, UpTo, Lost}
 use Rattle.regatta_service.specs.Lines.{CutOff, Prepared, Replied, Unsaid}
-use Rattle.regatta_service.specs.LinesTaken.{Asked}
+use Rattle.regatta_talk.specs.declared.asked.AskedLine.{AskedLine}
 
 prefix_then : (a b c : Journal) → IsPrefix a b → IsPrefix b c → IsPrefix a c
 prefix_then a b c (x, first) (y, second) =
@@ -34,7 +34,7 @@ noted_less made_from need (Some book) (Some noted) needs (kept, met, is) =
 noted_less made_from need (Some book) None needs is = is
 noted_less made_from need None (Some noted) needs is = is
 
-module _ {N : Type 0} {rules : RulesParts} {asked : Asked} {role later : Role} {before after : PassValue}
+module _ {N : Type 0} {rules : RulesParts} {asked : AskedLine} {role later : Role} {before after : PassValue}
     {text : List ℕ} {need : Need N} {book : Option (List Journal)}
     (p : Prepared rules asked role before after text need book)
     (role_set : later ≡ role_after asked role) where

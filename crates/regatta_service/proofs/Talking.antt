@@ -6,12 +6,13 @@ use Rattle.regatta_terms.specs.declared.command.Role.{Role}
 use Rattle.regatta_streams.proofs.KnownBytes.{consumes-keeps, consumes-none, consumes-then}
 use Rattle.regatta_scores.specs.Journal.{Journal}
 use Rattle.regatta_desk.specs.Passes.{PassValue}
-use Rattle.regatta_service.specs.LinesTaken.{AllReplied, Asked, Point, Stays, Talked, Took, WentOn}
+use Rattle.regatta_service.specs.LinesTaken.{AllReplied, Point, Stays, Talked, Took, WentOn}
 use Rattle.regatta_service.specs.LinesTaken.{asked_from, asked_in, point}
 use Rattle.regatta_service.specs.declared.sessions.End.{End}
 use Rattle.regatta_service.proofs.Points.{stays_same, took_seated}
 use Rattle.regatta_service.proofs.Taking.{all_taken, asked_of_text, none_taken, took_both}
 use Rattle.regatta_service.proofs.Taking.{went_both}
+use Rattle.regatta_talk.specs.declared.asked.AskedLine.{AskedLine}
 
 -- the bytes that the stream gave so far, and what was done with them
 pub record SoFar (rules : RulesParts) (to_read left : Option (List ℕ)) (before : Point)
@@ -68,7 +69,7 @@ module _ (rules : RulesParts) (to_read left : Option (List ℕ)) (before : PassV
     consumed = consumes-keeps to_read mid after (s.given ++ piece)
         (consumes-then to_read left mid s.given piece s.consumed consumed) keeps;
     role = role;
-    took = subst (λ (asked : List Asked). Took rules end asked (point Role.Scorer before old book)
+    took = subst (λ (asked : List AskedLine). Took rules end asked (point Role.Scorer before old book)
         (point role pass new noted)) (asked_of_text (s.given ++ piece))
         (took_both rules [] s.given (point Role.Scorer before old book) later between now stays piece
         (point role pass new noted) s.went end room t);
@@ -76,7 +77,7 @@ module _ (rules : RulesParts) (to_read left : Option (List ℕ)) (before : PassV
 
   -- nothing more was read
   all_read : AllReplied rules (asked_in s.given) (point Role.Scorer before old book) now
-  all_read = subst (λ (asked : List Asked). AllReplied rules asked (point Role.Scorer before old book)
+  all_read = subst (λ (asked : List AskedLine). AllReplied rules asked (point Role.Scorer before old book)
       now) (asked_of_text s.given)
       (all_taken rules [] s.given (point Role.Scorer before old book) later between now stays s.went)
 

@@ -5,13 +5,12 @@ use Rattle.regatta_terms.specs.Lines.{line_of}
 use Rattle.regatta_terms.specs.Rules.{RulesParts}
 use Rattle.regatta_terms.specs.TextLines.{ended_lines}
 use Rattle.regatta_terms.specs.declared.command.Role.{Role}
-use Rattle.regatta_terms.specs.declared.line.Line.{Line}
-use Rattle.regatta_terms.specs.declared.line.LineFault.{LineFault}
 use Rattle.regatta_talk.specs.HeardLines.{heard_lines}
+use Rattle.regatta_talk.specs.Replies.{asked_line, next_after}
+use Rattle.regatta_talk.specs.declared.asked.AskedLine.{AskedLine}
+use Rattle.regatta_talk.specs.declared.asked.Next.{Next}
 use Rattle.regatta_scores.specs.Journal.{Journal}
 use Rattle.regatta_desk.specs.Passes.{PassValue}
-use Rattle.regatta_desk.specs.Replies.{next_after}
-use Rattle.regatta_desk.specs.declared.answers.Next.{Next}
 use Rattle.regatta_service.specs.Lines.{CutOff, Replied, Unsaid}
 use Rattle.regatta_service.specs.declared.sessions.End.{End}
 
@@ -36,52 +35,52 @@ pub record Stays (before after : Point) : Type 0 where
 
 -- ---- what lines ask for
 
--- what a line asks for, or why it can't be read
-abbrev pub Asked : Type 0
-Asked = Result Line LineFault
+-- what a line asks for, by who answers it
+abbrev pub asks : List ℕ → AskedLine
+asks line = asked_line (line_of line)
 
 -- what the lines ask for that have ended in a text: not a last piece, which no LF ends
-abbrev pub asked_in : List ℕ → List Asked
-asked_in text = map line_of (ended_lines text)
+abbrev pub asked_in : List ℕ → List AskedLine
+asked_in text = map asks (ended_lines text)
 
 -- the same of some bytes that continue a line, by what is kept of each line
-abbrev pub asked_from : List ℕ → List ℕ → List Asked
-asked_from line bytes = map line_of (heard_lines false line bytes)
+abbrev pub asked_from : List ℕ → List ℕ → List AskedLine
+asked_from line bytes = map asks (heard_lines false line bytes)
 
 -- a line after which the session goes on: any except QUIT
-abbrev pub GoesOn : Asked → Type 0
+abbrev pub GoesOn : AskedLine → Type 0
 GoesOn asked = next_after asked ≡ Next.Go
 
 -- ---- what was done with a line
 
 -- it was answered, and exactly its reply was written
-abbrev pub IsReplied : RulesParts → Asked → Point → Point → Type 0
+abbrev pub IsReplied : RulesParts → AskedLine → Point → Point → Type 0
 IsReplied rules asked before after =
     Replied rules asked before.role after.role before.pass after.pass before.written after.written
     before.book after.book
 
 -- it was answered, and a write failed: a beginning of its reply was written, and not all of it
-abbrev pub IsCutOff : RulesParts → Asked → Point → Point → Type 0
+abbrev pub IsCutOff : RulesParts → AskedLine → Point → Point → Type 0
 IsCutOff rules asked before after =
     CutOff rules asked before.role after.role before.pass after.pass before.written after.written
     before.book after.book
 
 -- it was answered, and its reply stays sealed: nothing was written
-abbrev pub IsUnsaid : RulesParts → Asked → Point → Point → Type 0
+abbrev pub IsUnsaid : RulesParts → AskedLine → Point → Point → Type 0
 IsUnsaid rules asked before after =
     Unsaid rules asked before.role after.role before.pass after.pass
     × Keeps before.written after.written × (after.book ≡ before.book)
 
 -- it is QUIT, and was answered
-abbrev pub IsQuit : RulesParts → Asked → Point → Point → Type 0
+abbrev pub IsQuit : RulesParts → AskedLine → Point → Point → Type 0
 IsQuit rules asked before after = (next_after asked ≡ Next.End) × IsReplied rules asked before after
 
 -- nothing
-abbrev pub IsPassedOver : Asked → Point → Point → Type 0
+abbrev pub IsPassedOver : AskedLine → Point → Point → Type 0
 IsPassedOver asked before after = Stays before after
 
 -- what was done with one, by whether the session goes on or how it ended
-abbrev pub DidLine : {A : Type 0} → RulesParts → Result A End → Asked → Point → Point → Type 0
+abbrev pub DidLine : {A : Type 0} → RulesParts → Result A End → AskedLine → Point → Point → Type 0
 DidLine rules (Ok room) asked before after = GoesOn asked × IsReplied rules asked before after
 DidLine rules (Err End.Quit) asked before after = IsQuit rules asked before after
 DidLine rules (Err End.WriteFault) asked before after = IsCutOff rules asked before after
@@ -95,32 +94,32 @@ DidLine rules (Err End.NoMemory) asked before after = ⊥
 
 -- they were answered one after another, each once, in the role that those before it set, and exactly
 -- their replies were written
-abbrev pub AreReplied : RulesParts → List Asked → Point → Point → Type 0
+abbrev pub AreReplied : RulesParts → List AskedLine → Point → Point → Type 0
 AreReplied rules [] before after = Stays before after
 AreReplied rules (asked ∷ more) before after =
     (between : Point) × IsReplied rules asked before between × AreReplied rules more between after
 
 -- all were answered, and none of them is QUIT
-pub record AllReplied (rules : RulesParts) (asked : List Asked) (before after : Point) : Type 0
+pub record AllReplied (rules : RulesParts) (asked : List AskedLine) (before after : Point) : Type 0
   where
     pub going : All GoesOn asked
     pub answered : AreReplied rules asked before after
 
 -- those before one were answered, and none of them is QUIT; with that one this was done, and nothing
 -- with those after it
-pub record EndedAt (Did : Asked → Point → Point → Type 0) (rules : RulesParts) (asked : List Asked)
+pub record EndedAt (Did : AskedLine → Point → Point → Type 0) (rules : RulesParts) (asked : List AskedLine)
     (before after : Point) : Type 0 where
-  pub lines : List Asked
+  pub lines : List AskedLine
   pub going : All GoesOn lines
-  pub last : Asked
-  pub unanswered : List Asked
+  pub last : AskedLine
+  pub unanswered : List AskedLine
   pub cut : asked ≡ lines ++ last ∷ unanswered
   pub between : Point
   pub answered : AreReplied rules lines before between
   pub did : Did last between after
 
 -- what was done with the lines, by how the session ended
-abbrev pub Took : RulesParts → End → List Asked → Point → Point → Type 0
+abbrev pub Took : RulesParts → End → List AskedLine → Point → Point → Type 0
 Took rules End.Closed asked before after = AllReplied rules asked before after
 Took rules End.ReadFault asked before after = AllReplied rules asked before after
 Took rules End.Quit asked before after = EndedAt (IsQuit rules) rules asked before after
@@ -133,7 +132,7 @@ Took rules End.NoMemory asked before after = (asked ≡ []) × Stays before afte
 -- session goes on with the line `later`
 pub record WentOn (rules : RulesParts) (line bytes : List ℕ) (before : Point) (later : List ℕ)
     (after : Point) : Type 0 where
-  pub lines : List Asked
+  pub lines : List AskedLine
   pub going : All GoesOn lines
   pub cut : (rest : List ℕ) → asked_from line (bytes ++ rest) ≡ lines ++ asked_from later rest
   pub answered : AreReplied rules lines before after

@@ -2,21 +2,20 @@
 ghost use Rattle.std.specs.Prelude.{◌≡◌, ◌≢◌, ◌+◌, [], true, false, Ok, Err, None, IfErr, IfSome};
 ghost use Rattle.std.specs.Prelude.{IsSome, OnOk};
 ghost use Rattle.std.specs.Io.KnownBytes.{IsAtEnd, Keeps};
-ghost use Rattle.regatta_terms.specs.Lines.{line_of};
 ghost use Rattle.regatta_scores.specs.Journal.{Journal};
-ghost use Rattle.regatta_talk.specs.Replies.{role_after};
-ghost use Rattle.regatta_desk.specs.Replies.{is_for_desk, next_after};
+ghost use Rattle.regatta_talk.specs.Replies.{is_for_desk, next_after, role_after};
 ghost use Rattle.regatta_keeper.specs.Sealing.{Needs};
 ghost use Rattle.regatta_service.specs.Ends.{failed_reads_in, failures_in, failures_so_far};
 ghost use Rattle.regatta_service.specs.Lines.{DeskAnswers, Prepared};
-ghost use Rattle.regatta_service.specs.LinesTaken.{DidLine, Talked, Took, WentOn, asked_from, point};
+ghost use Rattle.regatta_service.specs.LinesTaken.{DidLine, Talked, Took, WentOn, asked_from, asks};
+ghost use Rattle.regatta_service.specs.LinesTaken.{point};
 
 use crate::gate::Gate;
-use regatta_desk::{Next, Office, OfficeName, Pass};
+use regatta_desk::{Office, OfficeName, Pass};
 use regatta_keeper::{Covers, Outlet, ReplyRoom, Sealed, Uncovered};
 use regatta_streams::{Device, Sink, Source};
-use regatta_talk::Cutter;
-use regatta_terms::{Line, LineFault, Role, read_line};
+use regatta_talk::{AskedLine, Cutter, DeskLine, Next};
+use regatta_terms::{Role, read_line};
 use std::alloc::Global;
 use std::sync::Wait;
 use std::thread;
@@ -81,9 +80,8 @@ impl<N: OfficeName, H: Wait + Drop, G: Gate> Talk<'_, N, H, G> {
         room: ReplyRoom,
         pass: &mut Pass<N>,
         covers: &C,
-        line: Line,
+        line: DeskLine,
     ) -> Option<Sealed<N, C>>
-        requires for_desk { is_for_desk (Ok line) ≡ true }
         ensures answered { IfSome result (λ reply. (made_from : Journal)
             × DeskAnswers N.rules line self.now.role pass.old pass.new [] reply.text made_from
             × Needs (C.book covers.now) reply.needs made_from) }
@@ -107,7 +105,7 @@ impl<N: OfficeName, H: Wait + Drop, G: Gate> Talk<'_, N, H, G> {
         room: ReplyRoom,
         pass: &mut Pass<N>,
         covers: &C,
-        asked: Result<Line, LineFault>,
+        asked: AskedLine,
     ) -> Option<(Sealed<N, C>, Next)>
         ensures answered { IfSome result (λ said. Prepared N.rules asked self.old.role pass.old
             pass.new said.0.text said.0.needs (C.book covers.now)) }
@@ -115,24 +113,24 @@ impl<N: OfficeName, H: Wait + Drop, G: Gate> Talk<'_, N, H, G> {
         ensures next { IfSome result (λ said. said.1 ≡ next_after asked) }
         ensures none { result ≡ None → (pass.new ≡ pass.old) × (self.new.role ≡ self.old.role) }
 
-        // A line that the pass answers alone is always answered.
+        // Only the desk may leave a line unanswered.
         ensures alone { is_for_desk asked ≡ false → IsSome result }
         ensures cutter { self.new.cutter ≡ self.old.cutter }
     {
         match asked {
-            Ok(line @ (Line::Do(_) | Line::Rank(_))) => {
+            AskedLine::Desk(line) => {
                 let Some(reply) = self.ask_desk(rt, room, pass, covers, line) else {
                     return None;
                 };
                 Some((reply, Next::Go))
             }
-            Ok(Line::Show) => {
+            AskedLine::Show => {
                 let reply = Sealed::show(room, rt, self.office, pass, covers);
                 Some((reply, Next::Go))
             }
-            Ok(Line::SetRole(_) | Line::Quit) | Err(_) => {
-                let said = Sealed::apart(room, pass, &mut self.role, asked);
-                Some(said)
+            AskedLine::Apart(line) => {
+                let reply = Sealed::apart(room, &mut self.role, line);
+                Some((reply, line.next()))
             }
         }
     }
@@ -155,7 +153,7 @@ impl<N: OfficeName, H: Wait + Drop, G: Gate> Talk<'_, N, H, G> {
 
         // What was done with the line, in the session's role, by how the session ended or that it
         // goes on. The next line then starts empty.
-        ensures did { DidLine N.rules result (line_of self.old.cutter)
+        ensures did { DidLine N.rules result (asks self.old.cutter)
             (point self.old.role pass.old (S.contents stream.old) (C.book covers.old))
             (point self.new.role pass.new (S.contents stream.new) (C.book covers.new)) }
         ensures cut { OnOk result (self.new.cutter ≡ []) }
@@ -172,8 +170,9 @@ impl<N: OfficeName, H: Wait + Drop, G: Gate> Talk<'_, N, H, G> {
         if !self.gate.before(pass.seat(), self.line) {
             return Err(End::Stopped);
         }
-        let asked = read_line(self.cutter.line());
-        let shown = matches!(asked, Ok(Line::Show));
+        let line = read_line(self.cutter.line());
+        let asked = AskedLine::of(line);
+        let shown = matches!(asked, AskedLine::Show);
         let Some((reply, next)) = self.answer(rt, room, pass, &*covers, asked) else {
             return Err(End::Stopped);
         };

@@ -1,7 +1,11 @@
 -- Numbers as digits.
 use Rattle.std.proofs.Common.{◌≡◌, ℕ, ◌+◌, ◌<◌, ◌≤◌, ◌/◌, ◌%◌, List, [], ◌∷◌, ◌++◌, decimal}
 use Rattle.std.proofs.Common.{sym, ap, ◌∙◌, append_assoc, arith}
+use Rattle.std.proofs.Common.{map, get_or, ◌*◌, refl}
+use Rattle.std.specs.List.{range_with_len}
 use Rattle.std.proofs.lemmas.Fmt.{decimal_digit, decimal_step}
+use Rattle.std.proofs.lemmas.List.FromFn.{get_or-map-range_with_len}
+use Rattle.regatta_tables.specs.declared.page.TheConstants.{PAIRS}
 
 -- a digit is its own text
 pub one_digit : (n : ℕ) → n < 10 → decimal n ≡ (48 + n) ∷ []
@@ -54,3 +58,20 @@ number_of_three n more few =
     ∙ (λ i. one_digit (n / 100) (omega (arith, few)) i
     ++ (number_of_one (n % 100 / 10) (omega arith) i ++ number_of_one (n % 100 % 10) (omega arith) i))
     ∙ (λ i. (48 + n / 100) ∷ (48 + tens i) ∷ (48 + ones i) ∷ [])
+
+-- the pair of digits that the table has for a number
+abbrev pub pair_at : ℕ → List ℕ
+pair_at n = get_or PAIRS (n * 2) 0 ∷ get_or PAIRS (n * 2 + 1) 0 ∷ []
+
+abbrev two_of : ℕ → List ℕ
+two_of n = (48 + n / 10) ∷ (48 + n % 10) ∷ []
+
+all_pairs : map pair_at (range_with_len 0 100) ≡ map two_of (range_with_len 0 100)
+all_pairs = refl
+
+pub pair_of : (n : ℕ) → n < 100 → pair_at n ≡ decimal (n / 10) ++ decimal (n % 10)
+pair_of n few =
+    sym (get_or-map-range_with_len pair_at 0 100 n n [] few (omega arith))
+    ∙ ap (λ (pairs : List (List ℕ)). get_or pairs n []) all_pairs
+    ∙ get_or-map-range_with_len two_of 0 100 n n [] few (omega arith)
+    ∙ (λ i. sym (one_digit (n / 10) (omega (arith, few))) i ++ sym (digit_text n) i)

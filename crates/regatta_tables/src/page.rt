@@ -5,6 +5,12 @@ ghost use Rattle.std.specs.Prelude.{◌≡◌, ◌≤◌, ◌<◌, ◌++◌, ◌
 ghost use Rattle.std.specs.Prelude.{take};
 ghost use Rattle.regatta_terms.specs.Entries.{points_text};
 
+/// Each number from 0 to 99, in two digits.
+static PAIRS: [u8; 200] = *b"\
+00010203040506070809101112131415161718192021222324252627282930313233343536373839404142434445464748\
+49505152535455565758596061626364656667686970717273747576777879808182838485868788899091929394959697\
+9899";
+
 /// Puts a byte at a place of the page. Returns the place after it.
 pub(crate) fn put(page: &mut [u8], at: usize, byte: u8) -> usize
     requires room { at + 1 ≤ length page.old }
@@ -48,8 +54,10 @@ fn put_two(page: &mut [u8], at: usize, number: u32) -> usize
     ensures end { result ≡ at + 2 }
     ensures same { length page.new ≡ length page.old }
 {
-    let at = put_digit(page, at, number / 10);
-    put_digit(page, at, number % 10)
+    let from = number as usize * 2;
+    let (first, second) = (PAIRS[from], PAIRS[from + 1]);
+    let at = put(page, at, first);
+    put(page, at, second)
 }
 
 /// Puts a number of one or two digits.

@@ -10,7 +10,14 @@ use Rattle.regatta_terms.specs.declared.reply.Refusal.TheVariants.{NotEntered}
 use Rattle.regatta_terms.specs.declared.reply.Touched.{Touched}
 use Rattle.regatta_terms.specs.declared.reply.Reply.{Reply}
 use Rattle.regatta_terms.specs.declared.reply.Reply.TheVariants.{Done, Refused, Fault, RoleSet}
-use Rattle.regatta_terms.specs.declared.reply.Reply.TheVariants.{Ranked, Bye, Closed}
+use Rattle.regatta_terms.specs.declared.reply.Reply.TheVariants.{Ranked, Bye}
+use Rattle.regatta_talk.specs.declared.asked.ApartLine.{ApartLine}
+use Rattle.regatta_talk.specs.declared.asked.ApartLine.TheVariants as ApartLine
+use Rattle.regatta_talk.specs.declared.asked.AskedLine.{AskedLine}
+use Rattle.regatta_talk.specs.declared.asked.AskedLine.TheVariants.{Desk, Apart}
+use Rattle.regatta_talk.specs.declared.asked.DeskLine.{DeskLine}
+use Rattle.regatta_talk.specs.declared.asked.Next.{Next}
+use Rattle.regatta_talk.specs.declared.asked.Next.TheVariants.{Go, End}
 
 -- the reply to a command, from the board's answer to its entry
 abbrev pub reply_of : Result Answer Refusal → Reply
@@ -22,30 +29,51 @@ abbrev pub ranked : Option Touched → Reply
 ranked (Some touched) = Ranked touched
 ranked None = Refused NotEntered
 
--- whether a line asks something of the board
-abbrev pub asks_board : Result Line LineFault → Bool
-asks_board (Ok (Do command)) = true
-asks_board (Ok (Rank sail)) = true
-asks_board (Ok Show) = true
-asks_board (Ok (SetRole role)) = false
-asks_board (Ok Quit) = false
-asks_board (Err fault) = false
+-- what a line asks for, by who answers it
+abbrev pub asked_line : Result Line LineFault → AskedLine
+asked_line (Ok (Do command)) = Desk (DeskLine.Do command)
+asked_line (Ok (Rank sail)) = Desk (DeskLine.Rank sail)
+asked_line (Ok Show) = AskedLine.Show
+asked_line (Ok (SetRole role)) = Apart (ApartLine.SetRole role)
+asked_line (Ok Quit) = Apart ApartLine.Quit
+asked_line (Err fault) = Apart (ApartLine.Fault fault)
 
--- the reply to a line that asks nothing of the board; for other lines the value is arbitrary and
--- never used
-abbrev pub reply_apart : Result Line LineFault → Reply
-reply_apart (Ok (SetRole role)) = RoleSet role
-reply_apart (Ok Quit) = Bye
-reply_apart (Err fault) = Fault fault
-reply_apart (Ok (Do command)) = Closed
-reply_apart (Ok (Rank sail)) = Closed
-reply_apart (Ok Show) = Closed
+-- whether the desk answers it; the pass or the session alone answers the others
+abbrev pub is_for_desk : AskedLine → Bool
+is_for_desk (Desk line) = true
+is_for_desk AskedLine.Show = false
+is_for_desk (Apart line) = false
 
--- the role of the lines after a line
-abbrev pub role_after : Result Line LineFault → Role → Role
-role_after (Ok (SetRole next)) role = next
-role_after (Ok (Do command)) role = role
-role_after (Ok (Rank sail)) role = role
-role_after (Ok Show) role = role
-role_after (Ok Quit) role = role
-role_after (Err fault) role = role
+-- ---- a line that asks nothing of the board
+
+-- its reply
+abbrev pub reply_apart : ApartLine → Reply
+reply_apart (ApartLine.SetRole role) = RoleSet role
+reply_apart ApartLine.Quit = Bye
+reply_apart (ApartLine.Fault fault) = Fault fault
+
+-- the role of the lines after it
+abbrev pub role_apart : ApartLine → Role → Role
+role_apart (ApartLine.SetRole next) role = next
+role_apart ApartLine.Quit role = role
+role_apart (ApartLine.Fault fault) role = role
+
+-- QUIT is the last line
+abbrev pub next_apart : ApartLine → Next
+next_apart (ApartLine.SetRole role) = Go
+next_apart ApartLine.Quit = End
+next_apart (ApartLine.Fault fault) = Go
+
+-- ---- any line
+
+-- the role of the lines after it
+abbrev pub role_after : AskedLine → Role → Role
+role_after (Desk line) role = role
+role_after AskedLine.Show role = role
+role_after (Apart line) role = role_apart line role
+
+-- whether lines after it are answered
+abbrev pub next_after : AskedLine → Next
+next_after (Desk line) = Go
+next_after AskedLine.Show = Go
+next_after (Apart line) = next_apart line

@@ -1,4 +1,4 @@
-use regatta_fixtures::{PLENTY, default_rules};
+use crate::{PLENTY, default_rules};
 use regatta_office::{Form, RunFault, Tape, replay};
 use regatta_terms::{Absent, Entry, Rules};
 use std::alloc::Global;
@@ -6,6 +6,8 @@ use std::test::Fail;
 
 mod boards;
 mod complaints;
+mod crashes;
+mod keepers;
 mod replays;
 mod scores;
 mod texts;

@@ -1,65 +1,18 @@
 -- What words ask for, by what `clap` says of them.
-use Rattle.std.specs.Prelude.{◌⊎◌, ◌||◌, Box}
-use Rattle.std.proofs.Common.{◌≡◌, Bool, true, false, List, Option, Some, None}
-use Rattle.std.proofs.Common.{Ok, Err, IfSome, codes, inl, inr, option_map, refl, sym, ap}
-use Rattle.std.proofs.Common.{◌∙◌, subst}
+use Rattle.std.specs.Prelude.{Box}
+use Rattle.std.proofs.Common.{◌≡◌, true, Option, Some, codes, option_map, refl, sym, ap, ◌∙◌}
 use Rattle.std.specs.Box.{box_value}
-use Rattle.clap.specs.Words.{App, FailsBy, HasMatchesOf, IsAmong, Row, Rule, Text, fault_of}
-use Rattle.clap.specs.Words.{with_rule}
-use Rattle.clap.specs.Words.{first_value, is_simple, kind_of, rows_of, subcommand_of}
-use Rattle.clap.specs.Words.{subcommand_rows_of, is_simple_and_free}
+use Rattle.clap.specs.Words.{first_value, is_simple, is_simple_and_free, rows_of}
 use Rattle.clap.specs.Simple.{subcommand_rows}
-use Rattle.clap.specs.declared.error.Error.{Error}
-use Rattle.clap.specs.declared.error.kind.ErrorKind.{ErrorKind}
-use Rattle.clap.specs.declared.error.kind.ErrorKind.TheVariants.{DisplayHelp, DisplayVersion}
-use Rattle.clap.specs.declared.error.kind.ErrorKind.TheVariants.{OutOfMemory}
-use Rattle.clap.specs.declared.parser.matches.ArgMatches.{ArgMatches}
 use Rattle.clap.specs.declared.parser.matches.ArgMatches.TheViews.{out-SubCommand}
 use Rattle.clap.specs.declared.parser.matches.Found.{Found}
 use Rattle.clap.specs.declared.parser.matches.SubCommand.{SubCommand}
 use Rattle.clap.proofs.OnLiterals.{clap_on_literals}
 use Rattle.clap.proofs.WalkLemmas.{first_value-rows}
+use Rattle.regatta_arguments.proofs.Asking.{subcommand_is}
 use Rattle.times.specs.Asked.{Race}
-use Rattle.times.specs.declared.options.Asked.{Asked}
 use Rattle.times.specs.declared.options.Asked.TheVariants.{Lines, Sums}
-use Rattle.times.specs.Words.{AskRun, AskText, IsText, asked_by, asked_of, race_with}
-use Rattle.times.specs.Words.{times, with_race, with_rules}
-
--- one of two cases, and what follows from each
-pub either : {P Q R S : Type 0} → P ⊎ Q → (P → R) → (Q → S) → R ⊎ S
-either (inl p) f g = inl (f p)
-either (inr q) f g = inr (g q)
-
--- what the program understands, with one more option
-pub with_one_more : (new old app : App) (rule known : Rule) → new ≡ with_rule old rule
-    → old ≡ app → rule ≡ known → new ≡ with_rule app known
-with_one_more new old app rule known is before same = is ∙ (λ i. with_rule (before i) (same i))
-
--- no argument of the command is global, with one more that isn't
-pub stays_local : (new old global : Bool) → new ≡ (old || global) → global ≡ false → new ≡ old
-stays_local new old global is local = is ∙ ap (λ (b : Bool). old || b) local ∙ or_false old
-  where
-    or_false : (b : Bool) → (b || false) ≡ b
-    or_false true = refl
-    or_false false = refl
-
--- the subcommand that was met, by its name and its rows
-pub subcommand_is : {Z : Type 0} (met : Option (Box SubCommand Z)) (name : Text) (rows : List Row)
-    → Some name ≡ option_map (λ b. (out-SubCommand (box_value b)).name.now) met
-    → Some rows ≡ option_map (λ p. p.1) (subcommand_rows met)
-    → subcommand_rows met ≡ Some (name, rows)
-subcommand_is None name rows named found = absurd (some_not named)
-  where
-    some_not : Some name ≡ None → ⊥
-    some_not e = cc
-subcommand_is (Some b) name rows named found =
-    λ i. Some (sym (same named) i, sym (same_rows found) i)
-  where
-    same : {x y : Text} → Some x ≡ Some y → x ≡ y
-    same e = cc
-
-    same_rows : {x y : List Row} → Some x ≡ Some y → x ≡ y
-    same_rows e = cc
+use Rattle.times.specs.Words.{asked_by, race_with, times, with_race, with_rules}
 
 -- what the options of `lines` ask for
 pub lines_is : {Z : Type 0} (met : Option (Box SubCommand Z)) (f : Found) (asked : Race)
@@ -82,59 +35,10 @@ sums_is met f asked named found is = ap asked_by (subcommand_is met _ _ named fo
     ∙ ap (option_map Sums) (sym is)
 
 -- the program is of the kind whose matches `clap` specifies
-simple : is_simple times ≡ true
+pub simple : is_simple times ≡ true
 unfolding clap_on_literals times with_race with_rules
 simple = refl
 
-free : is_simple_and_free times ≡ true
+pub free : is_simple_and_free times ≡ true
 unfolding clap_on_literals times with_race with_rules
 free = refl
-
--- words that are taken have no fault, and ask for a run
-pub matched : (app : App) (words : List Text) (m : ArgMatches)
-    → app ≡ times → HasMatchesOf app words m
-    → (is_simple_and_free app ≡ true → FailsBy {T = ArgMatches} (fault_of app words) (Ok m))
-    → (r : Option Asked) → IfSome r (λ asked. asked_by (subcommand_rows_of m) ≡ Some asked)
-    → IfSome r (AskRun words)
-matched app words m is has fails r found = by r found
-  where
-    same : asked_by (subcommand_rows_of m) ≡ asked_of words
-    same = ap asked_by ((has (ap is_simple is ∙ simple)).1
-        ∙ ap (λ (a : App). subcommand_of a words) is)
-
-    by : (r : Option Asked) → IfSome r (λ asked. asked_by (subcommand_rows_of m) ≡ Some asked)
-        → IfSome r (AskRun words)
-    by None found = tt
-    by (Some asked) found = record {
-      faultless = sym (ap (λ (a : App). fault_of a words) is)
-          ∙ fails (ap is_simple_and_free is ∙ free);
-      asks = sym same ∙ found;
-    }
-
-not_text : (e : Error) → kind_of e ≡ OutOfMemory → IsText (kind_of e) → ⊥
-not_text e memory (inl help) = differ (sym memory ∙ help)
-  where
-    differ : OutOfMemory ≡ DisplayHelp → ⊥
-    differ is = cc
-not_text e memory (inr version) = differ (sym memory ∙ version)
-  where
-    differ : OutOfMemory ≡ DisplayVersion → ⊥
-    differ is = cc
-
--- the error for a text comes only from arguments that ask for that text
-pub text_asked : (app : App) (words : List Text) (e : Error)
-    → app ≡ times
-    → (is_simple_and_free app ≡ true → FailsBy {T = ArgMatches} (fault_of app words) (Err e))
-    → IsText (kind_of e) → AskText words
-text_asked app words e is fails text = by (fails (ap is_simple_and_free is ∙ free)) text
-  where
-    asks : (kind : ErrorKind) → kind_of e ≡ kind → IsAmong (kind_of e) (fault_of app words)
-        → IsAmong kind (fault_of (times) words)
-    asks kind same among = subst (λ (a : App). IsAmong kind (fault_of a words)) is
-        (subst (λ (k : ErrorKind). IsAmong k (fault_of app words)) same among)
-
-    by : (kind_of e ≡ OutOfMemory) ⊎ IsAmong (kind_of e) (fault_of app words)
-        → IsText (kind_of e) → AskText words
-    by (inl memory) text = absurd (not_text e memory text)
-    by (inr among) (inl help) = inl (asks DisplayHelp help among)
-    by (inr among) (inr version) = inr (asks DisplayVersion version among)

@@ -2,6 +2,7 @@
 use Rattle.std.specs.Prelude.{◌≡◌, ◌≤◌, ◌⊎◌, ℕ, Bool, List, Option, Some, None, IfSome, Result, Ok}
 use Rattle.std.specs.Prelude.{length}
 use Rattle.std.specs.Io.KnownBytes.{Appends}
+use Rattle.regatta_arguments.specs.declared.texts.TheConstants.{TEXT_LIMIT}
 use Rattle.regatta_streams.specs.Texts.{AppendsPrefix}
 use Rattle.regatta_terms.specs.Lines.{◌>>=◌}
 use Rattle.regatta_times.specs.declared.fault.SheetFault.{SheetFault}
@@ -13,7 +14,6 @@ use Rattle.regatta_times.specs.Printed.{lines_text, sums_text}
 use Rattle.regatta_times.specs.Ratings.{ratings_of_text}
 use Rattle.regatta_times.specs.Sheets.{boats_of_text}
 use Rattle.regatta_times.specs.Timings.{times_of_boats}
-use Rattle.times.specs.declared.run.TheConstants.{FILE_LIMIT}
 use Rattle.times.specs.declared.settings.Settings.{Settings}
 use Rattle.times.specs.declared.settings.Form.{Form}
 use Rattle.times.specs.declared.settings.Form.TheVariants.{TimeLines, TimeSums}
@@ -55,7 +55,7 @@ text_in TimeSums settings times = sums_text settings.race settings.rounding time
 -- what a file holds
 abbrev pub IsListAt : Option (List ℕ) → List ℕ → List ℕ → Type 0
 IsListAt None sheet list = list ≡ sheet
-IsListAt (Some path) sheet list = length list ≤ FILE_LIMIT
+IsListAt (Some path) sheet list = length list ≤ TEXT_LIMIT
 
 -- `Wrote` holds of the lines or the sums of the race: from the whole input as its sheet, and with the
 -- ratings of the entry list

@@ -1,5 +1,6 @@
 -- The statuses of a program that stops early.
 use Rattle.std.specs.Prelude.{ℕ}
+use Rattle.regatta_arguments.specs.Stops.{status_of as status_of_stop}
 use Rattle.times.specs.declared.complaint.Complaint.{Complaint}
 use Rattle.times.specs.declared.complaint.Complaint.TheVariants as complaint
 
@@ -11,6 +12,4 @@ status_of complaint.BadSystem = 2
 status_of complaint.BadRounding = 2
 status_of (complaint.Ratings number row fault) = 1
 status_of (complaint.Sheet number row fault) = 1
-status_of complaint.TooLong = 1
-status_of complaint.Device = 3
-status_of complaint.NoMemory = 3
+status_of (complaint.Stop stop) = status_of_stop stop

@@ -2,10 +2,9 @@
 ghost use Rattle.std.specs.Prelude.{◌≡◌, ◌≢◌};
 ghost use Rattle.times.specs.Complaints.{status_of};
 
-use regatta_streams::ReadFault;
+use regatta_arguments::Stop;
 use regatta_times::SheetFault;
 use std::alloc::AllocError;
-use std::io::ErrorKind;
 use thiserror::Error;
 
 /// Why the program stops early. Its text is what the program says on standard error.
@@ -34,15 +33,9 @@ pub(crate) enum Complaint {
         row: usize,
         fault: SheetFault,
     },
-    /// The sheet or the entry list is too long.
-    #[error("times: input too long")]
-    TooLong,
-    /// A file or a stream fails.
-    #[error("times: device fault")]
-    Device,
-    /// An allocation failed.
-    #[error("times: no memory")]
-    NoMemory,
+    /// What may stop any program.
+    #[error("times: {}", .0.text())]
+    Stop(Stop),
 }
 
 impl Complaint {
@@ -53,8 +46,8 @@ impl Complaint {
     {
         match self {
             Complaint::BadRace | Complaint::BadSystem | Complaint::BadRounding => 2,
-            Complaint::Ratings { .. } | Complaint::Sheet { .. } | Complaint::TooLong => 1,
-            Complaint::Device | Complaint::NoMemory => 3,
+            Complaint::Ratings { .. } | Complaint::Sheet { .. } => 1,
+            Complaint::Stop(stop) => stop.status(),
         }
     }
 
@@ -66,7 +59,7 @@ impl Complaint {
                 row,
                 fault,
             },
-            None => Complaint::NoMemory,
+            None => Complaint::Stop(Stop::NoMemory),
         }
     }
 
@@ -78,33 +71,19 @@ impl Complaint {
                 row,
                 fault,
             },
-            None => Complaint::NoMemory,
+            None => Complaint::Stop(Stop::NoMemory),
         }
     }
 }
 
 impl From<AllocError> for Complaint {
     fn from(_: AllocError) -> Complaint {
-        Complaint::NoMemory
+        Complaint::Stop(Stop::NoMemory)
     }
 }
 
-/// The complaint about a file that can't be opened.
-impl From<ErrorKind> for Complaint {
-    fn from(kind: ErrorKind) -> Complaint {
-        match kind {
-            ErrorKind::OutOfMemory => Complaint::NoMemory,
-            _ => Complaint::Device,
-        }
-    }
-}
-
-impl From<ReadFault> for Complaint {
-    fn from(fault: ReadFault) -> Complaint {
-        match fault {
-            ReadFault::Stream => Complaint::Device,
-            ReadFault::TooLong => Complaint::TooLong,
-            ReadFault::NoMemory => Complaint::NoMemory,
-        }
+impl From<Stop> for Complaint {
+    fn from(stop: Stop) -> Complaint {
+        Complaint::Stop(stop)
     }
 }

@@ -1,17 +1,16 @@
 //! The options of the program.
-ghost use Rattle.std.specs.Prelude.{◌≡◌, false, true, map, IfOk, IfErr, IfSome, Some};
+ghost use Rattle.std.specs.Prelude.{◌≡◌, false, map, IfOk, IfErr, IfSome, Some};
 ghost use Rattle.std.specs.Option.{option_copied};
-ghost use Rattle.clap.specs.Words.{app_of, first_value, found_of, kind_of, rule_of};
+ghost use Rattle.clap.specs.Words.{app_of, first_value, found_of, kind_of};
 ghost use Rattle.clap.specs.Words.{subcommand_rows_of};
 ghost use Rattle.clap.specs.declared.builder.command.Command.TheViews.{out-Command};
-ghost use Rattle.times.specs.Words.{AskRun, AskText, IsText, asked_by, race_by, race_with};
-ghost use Rattle.times.specs.Words.{flag as flag_of, is_given as is_given_by};
-ghost use Rattle.times.specs.Words.{option as option_of, option_or as option_or_of};
-ghost use Rattle.times.specs.Words.{lines as lines_of, sums as sums_of, times as times_of};
+ghost use Rattle.regatta_arguments.specs.Asking.{AskRun, AskText, IsText};
+ghost use Rattle.times.specs.Words.{asked_by, race_by, race_with, times as times_of};
+ghost use Rattle.times.specs.Words.{subcommand as subcommand_of};
 ghost use Rattle.times.specs.Words.{with_race as with_race_of, with_rules as with_rules_of};
 
-use clap::{Arg, ArgAction, ArgMatches, Command, Error};
-use regatta_version::VERSION;
+use clap::{ArgMatches, Command, Error};
+use regatta_arguments::{bare_program, flag, is_given, option, option_or};
 use std::alloc::{AllocError, Global};
 use std::marker::Model;
 
@@ -79,42 +78,6 @@ static ENTRIES: &str = "The entry list that has the ratings: CSV with a column S
 
 static OVERNIGHT: &str = "A finish that the clock shows before the start is one of the next day";
 
-/// An option without a value.
-fn flag<'a>(alloc: Global, name: &'a str, help: &'a str) -> Arg<'a>
-    ensures rule { rule_of result ≡ flag_of name.now }
-    ensures local { result.global ≡ false }
-{
-    Arg::new(alloc, name)
-        .long(name)
-        .action(ArgAction::SetTrue)
-        .help(help)
-}
-
-/// An option that takes one value.
-fn option<'a>(alloc: Global, name: &'a str, value: &'a str, help: &'a str) -> Arg<'a>
-    ensures rule { rule_of result ≡ option_of name.now }
-    ensures local { result.global ≡ false }
-{
-    Arg::new(alloc, name)
-        .long(name)
-        .value_name(value)
-        .help(help)
-}
-
-/// An option that takes one value and has a default.
-fn option_or<'a>(
-    alloc: Global,
-    name: &'a str,
-    value: &'a str,
-    default: &'a str,
-    help: &'a str,
-) -> Arg<'a>
-    ensures rule { rule_of result ≡ option_or_of name.now default.now }
-    ensures local { result.global ≡ false }
-{
-    option(alloc, name, value, help).default_value(default)
-}
-
 /// Adds the options of the race: its number, and the system, which are required.
 fn with_race<'a>(alloc: Global, command: Command<'a>) -> Result<Command<'a>, AllocError>
     ensures app { IfOk result (λ c. app_of c ≡ with_race_of (app_of command.entry)) }
@@ -145,23 +108,12 @@ fn with_rules<'a>(alloc: Global, command: Command<'a>) -> Result<Command<'a>, Al
     Ok(command)
 }
 
-/// `lines` with its options.
-fn lines<'a>(alloc: Global) -> Result<Command<'a>, AllocError>
-    ensures app { IfOk result (λ c. app_of c ≡ lines_of) }
+/// A subcommand of this name, with its options.
+fn subcommand<'a>(alloc: Global, name: &'a str, about: &'a str) -> Result<Command<'a>, AllocError>
+    ensures app { IfOk result (λ c. app_of c ≡ subcommand_of name.now) }
     ensures local { IfOk result (λ c. (out-Command c).has_globals ≡ false) }
 {
-    let command = Command::new(alloc, "lines").about(LINES);
-    let command = with_race(alloc, command)?;
-    let command = with_rules(alloc, command)?;
-    Ok(command)
-}
-
-/// `sums` with its options.
-fn sums<'a>(alloc: Global) -> Result<Command<'a>, AllocError>
-    ensures app { IfOk result (λ c. app_of c ≡ sums_of) }
-    ensures local { IfOk result (λ c. (out-Command c).has_globals ≡ false) }
-{
-    let command = Command::new(alloc, "sums").about(SUMS);
+    let command = Command::new(alloc, name).about(about);
     let command = with_race(alloc, command)?;
     let command = with_rules(alloc, command)?;
     Ok(command)
@@ -171,25 +123,10 @@ fn sums<'a>(alloc: Global) -> Result<Command<'a>, AllocError>
 fn times<'a>(alloc: Global) -> Result<Command<'a>, AllocError>
     ensures { IfOk result (λ c. app_of c ≡ times_of) }
 {
-    let command = Command::new(alloc, "times")
-        .about(ABOUT)
-        .version(VERSION)
-        .no_binary_name(true)
-        .subcommand_required(true)
-        .bin_name("times")?;
-    let command = command.subcommand(lines(alloc)?)?;
-    let command = command.subcommand(sums(alloc)?)?;
+    let command = bare_program(alloc, "times", ABOUT)?;
+    let command = command.subcommand(subcommand(alloc, "lines", LINES)?)?;
+    let command = command.subcommand(subcommand(alloc, "sums", SUMS)?)?;
     Ok(command)
-}
-
-/// Whether a flag is given: `clap` has the text `true` for it then.
-fn is_given(flag: Option<&str>) -> bool
-    ensures { result ≡ is_given_by (option_copied flag.entry) }
-{
-    match flag {
-        Some(word) => word == "true",
-        None => false,
-    }
 }
 
 /// The race, from the values of `--race`, `--system`, `--rounding` and `--rating`, of `--overnight`,
@@ -256,9 +193,9 @@ pub(crate) fn options_of<'a>(
     words: &'a [&'a str],
 ) -> Result<Option<Asked<'a>>, Error>
     ensures asked { IfOk result (λ asked.
-        IfSome asked (AskRun (map (λ word. word.now) words.entry.now))) }
+        IfSome asked (AskRun times_of asked_by (map (λ word. word.now) words.entry.now))) }
     ensures text { IfErr result (λ e. IsText (kind_of e) →
-        AskText (map (λ word. word.now) words.entry.now)) }
+        AskText times_of (map (λ word. word.now) words.entry.now)) }
 {
     let Ok(command) = times(alloc) else {
         return Err(Error::from(AllocError));

@@ -1,45 +1,30 @@
 //! A run: a sheet is read and corrected, and the lines or the sums are written.
-ghost use Rattle.std.specs.Prelude.{◌≡◌, ◌≤◌, ◌⊎◌, Ok, IfOk, IfSome, OnOk, length};
+ghost use Rattle.std.specs.Prelude.{◌≡◌, ◌⊎◌, Ok, IfOk, OnOk};
 ghost use Rattle.std.specs.Option.{option_copied};
 ghost use Rattle.times.specs.Asked.{AtMostRunOf, IsListAt, IsRunOf, text_in, times_from};
-ghost use Rattle.times.specs.declared.run.TheConstants.{FILE_LIMIT};
 
 use crate::complaint::Complaint;
 use crate::options::RaceOptions;
 use crate::settings::{Form, Settings, settings_of};
-use regatta_streams::{Foreign, Sink, Source, read_text, write_all};
+use regatta_arguments::{Stop, text_at, text_of};
+use regatta_streams::{Sink, Source, write_all};
 use regatta_times::{Timed, read_ratings, read_sheet, times_of_boats, write_lines, write_sums};
 use std::alloc::{AllocError, Global};
-use std::fs::{self, Files};
-
-/// The most bytes of the sheet, and of the entry list.
-const FILE_LIMIT: u32 = 1_048_576;
-
-fn text_at<H: Files + AllocGlobal>(rt: &H, path: &str) -> Result<Vec<u8>, Complaint>
-    ensures { IfOk result (λ text. length text.items ≤ FILE_LIMIT) }
-{
-    match fs::open(rt, path) {
-        Ok(file) => Ok(read_text(rt.alloc(), &mut Foreign::new(file), FILE_LIMIT)?),
-        Err(error) => Err(Complaint::from(error.kind())),
-    }
-}
+use std::fs::Files;
 
 /// The text that has the ratings: the entry list, or the sheet if no file is named.
 fn list_at<H: Files + AllocGlobal>(
     rt: &H,
     path: Option<&str>,
     sheet: &[u8],
-) -> Result<Vec<u8>, Complaint>
+) -> Result<Vec<u8>, Stop>
     ensures { IfOk result (λ list. IsListAt (option_copied path.entry) sheet.now list.items) }
 {
     match path {
-        Some(path) => {
-            let list = text_at(rt, path)?;
-            Ok(list)
-        }
+        Some(path) => text_at(rt, path),
         None => match Vec::from_slice(rt.alloc(), sheet) {
             Ok(list) => Ok(list),
-            Err(_) => Err(Complaint::NoMemory),
+            Err(_) => Err(Stop::NoMemory),
         },
     }
 }
@@ -109,13 +94,13 @@ pub(crate) fn run<H: Files + AllocGlobal, R: Source, W: Sink>(
 {
     let alloc = rt.alloc();
     let settings = settings_of(asked.race, asked.system, asked.rounding)?;
-    let sheet = read_text(alloc, input, FILE_LIMIT)?;
+    let sheet = text_of(alloc, input)?;
     let list = list_at(rt, asked.entries, &sheet)?;
     let rating = asked.rating.as_bytes();
     let times = times_from(alloc, &settings, rating, asked.overnight, &list, &sheet)?;
     let text = text_in(alloc, form, &settings, &times)?;
     match write_all(output, &text) {
         Ok(()) => Ok(()),
-        Err(_) => Err(Complaint::Device),
+        Err(_) => Err(Complaint::Stop(Stop::Device)),
     }
 }

@@ -38,19 +38,22 @@ export function linesOfOtherRace(race, number, to, sails, codes) {
 }
 
 // The same by corrected time: `rows` are those of the sheet, of which the other sheet has all but the finishes. A boat
-// that isn't in the sheet has her time in the journal alone.
+// that isn't in the sheet has her time in the journal alone. What a boat with a code has in the sheet is struck before her
+// code is cleared: it would be her time then.
 export function linesOfOtherSheet(race, number, to, sails, rows, codes) {
-  const finishes = sails.filter(sail => rows.get(sail)?.finish).map(sail => `FINISH ${to} ${sail} ${rows.get(sail).finish}`);
+  const coded = [...rows.keys()].filter(sail => !sails.includes(sail)), all = [...sails, ...coded];
+  const finishes = all.filter(sail => rows.get(sail)?.finish).map(sail => `FINISH ${to} ${sail} ${rows.get(sail).finish}`);
   const times = sails.filter(sail => !rows.has(sail) && race.times[sail] !== undefined).map(sail => `TIME ${to} ${sail} ${race.times[sail]}`);
-  const elapsed = sails.some(sail => rows.has(sail) && !rows.get(sail).finish) ? [`TIMES ${to}`] : [];
-  return [...finishes, ...times, ...elapsed, ...codes, ...sails.map(sail => `STRIKE ${number} ${sail}`)];
+  const elapsed = all.some(sail => rows.has(sail) && !rows.get(sail).finish) ? [`TIMES ${to}`] : [], strike = sail => `STRIKE ${number} ${sail}`;
+  return [...finishes, ...times, ...elapsed, ...coded.map(strike), ...codes, ...sails.map(strike)];
 }
 
-// The lines that put the codes and penalties of boats into another race. What the jury has decided stays: it alone
-// clears that.
+// Whether the jury has decided about a boat: it alone clears that.
+export const isJurys = (race, sail) => race.redress[sail] !== undefined || ["DSQ", "DNE"].includes(race.codes[sail]);
+
+// The lines that put the codes and penalties of boats into another race. What the jury has decided stays.
 export function linesOfCodes(race, number, to, sails) {
-  const isJurys = sail => race.redress[sail] !== undefined || ["DSQ", "DNE"].includes(race.codes[sail]);
-  return sails.filter(sail => !isJurys(sail)).flatMap(sail => {
+  return sails.filter(sail => !isJurys(race, sail)).flatMap(sail => {
     const put = [...race.codes[sail] ? [`MARK ${to} ${sail} ${race.codes[sail]}`] : [],
       ...(race.penalties[sail] ?? []).map(code => `PENALTY ${to} ${sail} ${code}`)];
     return put.length ? [...put, `CLEAR ${number} ${sail}`] : [];

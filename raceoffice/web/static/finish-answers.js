@@ -6,7 +6,7 @@ import {momentNow} from "./office.js";
 import {choose} from "./dialogs.js";
 import {spaced} from "./sails.js";
 import {agreedOf, wordsOf} from "./questions.js";
-import {clock, page, queue} from "./finish-state.js";
+import {clock, named, page, queue} from "./finish-state.js";
 
 export async function ask(item) {
   const done = item.clock ? await askWhen(item) : item.isWhere ? await askWhere(item) : await askWhether(item);
@@ -20,7 +20,8 @@ export async function ask(item) {
 }
 
 function askWhether(item) {
-  return choose(text("common.isThatRight"), wordsOf(item.question),
+  const [mark, , sail = mark] = item.line.split(" ");
+  return choose(text("common.isThatRight"), [page.classes.length > 1 && named(item.class, sail), wordsOf(item.question)],
     [{value: "drop", label: text("finish.noDrop"), look: "bad"}, {value: "yes", label: text("finish.yesSend"), look: "main"}]);
 }
 
@@ -29,7 +30,7 @@ function askWhen(item) {
   const [mark, , sail] = item.line.split(" ");
   const day = at => byClock(at, page.states[item.class].zone).toLocaleDateString(language, {dateStyle: "long", timeZone: "UTC"});
   const label = at => `${day(at)}, ${clock(item.class, at)}`;
-  return choose(text("finish.whenTapped", {sail: spaced(sail ?? mark)}), text("finish.clockWasSet"),
+  return choose(text("finish.whenTapped", {sail: named(item.class, sail ?? mark)}), text("finish.clockWasSet"),
     [{value: "then", label: label(item.at)}, {value: "now", label: label(momentNow(item))}, {value: "drop", label: text("finish.dropTap"), look: "bad"}], "stack");
 }
 
@@ -45,7 +46,7 @@ function askWhere(item) {
   const [mark, , boat] = item.line.split(" "), sail = boat ?? mark, [command, , , other] = (item.byClock ?? "").split(" ");
   const isAhead = command === "BEFORE";
   const byTime = {value: "clock", label: text("finish.byClock", {sail: spaced(other ?? "")}), look: "main"};
-  return choose(text("finish.whereDidSheFinish", {sail: spaced(sail)}),
+  return choose(text("finish.whereDidSheFinish", {sail: named(item.class, sail)}),
     [wordsOf(item.question), element("p", {class: "soft"}, text("finish.tappedAt", {time: clock(item.class, item.at)}))],
     [...(isAhead ? [byTime] : []), {value: "after", label: text("finish.afterAll"), look: isAhead ? "" : "main"},
       {value: "drop", label: text("finish.dropTap"), look: "bad"}], "stack");

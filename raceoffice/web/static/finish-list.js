@@ -46,7 +46,7 @@ function merged(lists) {
 
 function boatRow(one, place, race, row) {
   const {sail} = row, boat = boatNamed(one.class, sail), state = race.unsent[sail];
-  const isLate = state === "unsent" || state === "asked", item = askedItem(sail);
+  const isLate = state === "unsent" || state === "asked", item = askedItem(one.class, sail);
   const names = [page.classes.length > 1 ? one.group : "", boat.name || boat.helm].filter(Boolean).join(" · ");
   const codes = heldBy(race, sail).map(code => [" ", element("span", {class: `code ${kindOf(code)}`}, code)]);
   const open = () => item ? answer(item) : askFinisher(one.class, sail);

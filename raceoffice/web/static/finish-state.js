@@ -190,8 +190,8 @@ export function setDigits(digits) {
 }
 
 // The item that the office asks about: the first, or that of a boat
-export function askedItem(sail = "") {
-  return queue.items.find(item => item.state === "asked" && (!sail || item.line.split(" ")[2] === sail));
+export function askedItem(name, sail) {
+  return queue.items.find(item => item.state === "asked" && (!name || item.class === name && isHere(item) && item.line.split(" ")[2] === sail));
 }
 
 // Asks somebody what the office asks about an item, if no other window is open.

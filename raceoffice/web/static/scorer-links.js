@@ -1,8 +1,9 @@
 'use strict';
 // Links, devices and offices: what the scorer looks after beside the races.
 import {element} from "./elements.js";
-import {text} from "./texts.js";
+import {text, timeOfDay} from "./texts.js";
 import {ask} from "./office.js";
+import {state} from "./desk.js";
 import {choose, hush, say} from "./dialogs.js";
 import {agreedOf} from "./questions.js";
 import {remarkWords, troubleWords} from "./remark-words.js";
@@ -143,13 +144,19 @@ async function openOffice(name) {
   lookAtDevices(drawAgain);
 }
 
+// What an office said, with the time of the day by the clock of its series
+function timedWords(name, said) {
+  const time = timeOfDay(said.at, state(name)?.zone), words = remarkWords(said);
+  return time ? `${time} ${words.replace(/^\d\d:\d\d(:\d\d)? /, "")}` : words;
+}
+
 function officeStep(one) {
   const buttons = one.open
     ? element("button", {type: "button", class: "bad", onclick: () => closeOffice(one.class)}, text("office.closeForToday"))
     : element("button", {type: "button", class: "main", onclick: () => openOffice(one.class)}, text("office.open"));
   return element("section", {class: "step", "data-key": one.class},
     element("h2", {}, withClass(one.class, one.class), " ", element("span", {class: `chip ${one.open ? "good" : "bad"}`}, text(one.open ? "office.stateOpen" : "office.stateClosed"))),
-    element("pre", {class: "mono linktext", tabindex: "0", "aria-label": text("office.itsWords")}, one.said.slice(-14).map(remarkWords).join("\n")), one.open && !one.is_kept_here ? element("p", {class: "waits"}, text("office.joined")) : null, element("div", {class: "acts"}, buttons));
+    element("pre", {class: "mono linktext", tabindex: "0", "aria-label": text("office.itsWords")}, one.said.slice(-14).map(said => timedWords(one.class, said)).join("\n")), one.open && !one.is_kept_here ? element("p", {class: "waits"}, text("office.joined")) : null, element("div", {class: "acts"}, buttons));
 }
 
 // Has a series served that wasn't yet, as one whose results are final.

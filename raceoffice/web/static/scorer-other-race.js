@@ -7,19 +7,28 @@ import {ask, newId} from "./office.js";
 import {choose, say} from "./dialogs.js";
 import {remarkSentences, troubleWords} from "./remark-words.js";
 import {called, raceNumbered, state} from "./desk.js";
+import {spaced} from "./sails.js";
 import {atTheLine} from "./race-view.js";
 import {addressOf, withClass} from "./sending.js";
 import {agreedOfLines, lines} from "./scorer-unfinished.js";
-import {linesOfCodes, linesOfOtherRace, linesOfOtherSheet} from "./corrections.js";
+import {isJurys, linesOfCodes, linesOfOtherRace, linesOfOtherSheet} from "./corrections.js";
 
 const RACES = 40;
 const cancel = () => ({value: "", label: text("common.cancel")});
+
+const isEntered = (name, sail) => state(name).boats.some(boat => boat[0] === sail);
 
 // The finishers of a race as they came, also those that only the sheet has
 export function finishersOf(name, race) {
   const {handicap} = state(name), sheet = handicap ? race.sheet?.rows ?? {} : {};
   return [...new Set([...handicap ? atTheLine(race).order.flat() : [], ...race.order.flat(),
-    ...Object.keys(sheet).filter(sail => !sheet[sail].code && sheet[sail].elapsed !== null)])];
+    ...Object.keys(sheet).filter(sail => !sheet[sail].code && sheet[sail].elapsed !== null)])].filter(sail => isEntered(name, sail));
+}
+
+// Says before whose rows of the sheet stay: no line is taken of a boat that isn't entered.
+function rowsThatStay(name, number, race) {
+  const sails = Object.keys(race.sheet?.rows ?? {}).filter(sail => !isEntered(name, sail));
+  return sails.length ? element("p", {class: "wrong"}, text("scorer.rowsStay", {n: sails.length, sails: sails.map(spaced), name: `times/race-${number}.csv`})) : null;
 }
 
 // Which finishers and codes belong to which race; null if none are to be moved.
@@ -34,7 +43,7 @@ async function asked(name, number, race, finishers) {
   const done = await choose(text("scorer.otherRace"), [element("label", {class: "field"}, text("scorer.fromBoat"), from),
     coded.length ? element("div", {class: "options"}, element("label", {}, codes, element("span", {},
       text("scorer.codesToo", {codes: coded.map(sail => `${called(sail, name)} ${race.codes[sail]}`)})))) : null,
-    element("label", {class: "field"}, text("scorer.belongTo"), field)], [cancel(), {value: "yes", label: text("scorer.putThem"), look: "main"}]);
+    element("label", {class: "field"}, text("scorer.belongTo"), field), rowsThatStay(name, number, race)], [cancel(), {value: "yes", label: text("scorer.putThem"), look: "main"}]);
   const sails = finishers.slice(from.selectedIndex);
   return done === "yes" ? {to: Number(field.value), sails, isAll: from.selectedIndex === 0, coded: codes.checked ? coded : []} : null;
 }
@@ -66,11 +75,11 @@ function isTaken(answer) {
 }
 
 // Moves rows of a sheet: their starts, laps, distances and elapsed times first, then a line for each finish. What is asked of
-// these lines is asked before.
-async function sheetToOther(name, number, race, {to, sails, isAll}, codes) {
-  const [from, other] = [await sheetOf(name, number), await sheetOf(name, to)];
-  if (!isTaken(from) || !isTaken(other) || hasTwice(to, sails, other.rows)) return;
-  const moved = new Map(from.rows.filter(row => sails.includes(row.sail) && (row.finish || row.elapsed)).map(row => [row.sail, row]));
+// these lines is asked before. What a boat with a code has there goes with her.
+async function sheetToOther(name, number, race, {to, sails, coded, isAll}, codes) {
+  const [from, other] = [await sheetOf(name, number), await sheetOf(name, to)], isMoved = sail => sails.includes(sail) || coded.includes(sail) && !isJurys(race, sail);
+  if (!isTaken(from) || !isTaken(other) || hasTwice(to, isMoved, other.rows)) return;
+  const moved = new Map(from.rows.filter(row => isMoved(row.sail) && (row.finish || row.elapsed)).map(row => [row.sail, row]));
   const starts = filled([...moved.values()].map(row => row.start)), there = filled(other.rows.map(row => row.start));
   const isOther = starts.length > 0 && there.length > 0 && starts.join() !== there.join();
   const whose = isOther ? await whoseStart(name, to, there, starts) : "own";
@@ -88,8 +97,8 @@ async function sheetToOther(name, number, race, {to, sails, isAll}, codes) {
 }
 
 // Whether one of the boats is in the other sheet already, which is said
-function hasTwice(to, sails, rows) {
-  const row = rows.find(one => sails.includes(one.sail) && (one.finish || one.elapsed || one.code));
+function hasTwice(to, isMoved, rows) {
+  const row = rows.find(one => isMoved(one.sail) && (one.finish || one.elapsed || one.code));
   if (!row) return false;
   const values = {sail: row.sail, before: row.finish || row.elapsed || row.code, name: `times/race-${to}.csv`};
   say(remarkSentences([{kind: "sheet-has", values, text: ""}]).join("\n"), true);

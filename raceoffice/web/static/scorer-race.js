@@ -11,7 +11,7 @@ import {finishersOf, toOtherRace} from "./scorer-other-race.js";
 import {unfinishedPart} from "./scorer-unfinished.js";
 import {correctNames, enterLate, takeOut, unlistedPart} from "./scorer-late.js";
 
-// What was compared with the paper on this page: "RACE SAIL"
+// What was compared with the paper on this page: "CLASS RACE SAIL"
 const ticked = new Set();
 let drawAgain = () => {};
 
@@ -25,7 +25,7 @@ function rowsOf(name, race, number) {
 }
 
 function boatRow(name, race, number, sail, place, placeWords) {
-  const key = `${number} ${sail}`, boat = boatOf(sail, name), isTicked = ticked.has(key);
+  const key = `${name} ${number} ${sail}`, boat = boatOf(sail, name), isTicked = ticked.has(key);
   const held = heldIn(race, sail).filter(code => code !== race.codes[sail]);
   const flip = () => { if (!ticked.delete(key)) ticked.add(key); drawAgain(); };
   return element("tr", {class: isTicked ? "ticked" : "", "data-key": key, "data-sail": sail},
@@ -56,8 +56,8 @@ function orderTable(rows) {
     element("tbody", {}, rows));
 }
 
-function comparedLine(race, number) {
-  const boats = placed(race), count = boats.filter(sail => ticked.has(`${number} ${sail}`)).length, isAll = count > 0 && count === boats.length;
+function comparedLine(name, race, number) {
+  const boats = placed(race), count = boats.filter(sail => ticked.has(`${name} ${number} ${sail}`)).length, isAll = count > 0 && count === boats.length;
   const words = text("scorer.compared", {n: count, of: boats.length});
   return element("p", {class: `paper ${isAll ? "all" : ""}`},
     element("progress", {max: boats.length || 1, value: count, "aria-label": words}), element("span", {}, words));
@@ -127,7 +127,7 @@ export function racePane(name, number, draw) {
     element("header", {}, element("h2", {id: "race-title"}, `${text("common.race")} ${number} `),
       element("span", {class: `chip ${race.counts ? "good" : "wait"}`}, text(race.counts ? "scorer.counts" : "scorer.doesntCount")),
       element("span", {class: "soft"}, counts)),
-    unfinishedPart(name), actions(name, race, number, !rows.length), rows.length ? comparedLine(race, number) : null, waitingPart(name, race, number, waiting), missingParts(race, away),
+    unfinishedPart(name), actions(name, race, number, !rows.length), rows.length ? comparedLine(name, race, number) : null, waitingPart(name, race, number, waiting), missingParts(race, away),
     stalePart(state(name).decisions),
     orderTable(rows), awayPart(name, race, number, away), unlistedPart(name), typedForm(name), entriesPart(name));
 }

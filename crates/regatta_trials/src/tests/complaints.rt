@@ -1,6 +1,7 @@
 //! What the program says of each fault, and its status: no contract says so.
 
 use super::*;
+use regatta_arguments::Stop;
 use regatta_office::{Complaint, DoorFault, OpenFault, ServeFault};
 use regatta_streams::ReadFault;
 use regatta_tables::{EntriesFault, JournalFault};
@@ -60,15 +61,21 @@ static RUNS: [(RunFault, Complaint); 5] = [
     (RunFault::NoMemory, Complaint::NoMemory),
 ];
 
-static READS: [(ReadFault, Complaint); 3] = [
-    (ReadFault::Stream, Complaint::Device),
-    (ReadFault::TooLong, Complaint::TooLong),
-    (ReadFault::NoMemory, Complaint::NoMemory),
+static STOPS: [(Stop, Complaint); 3] = [
+    (Stop::TooLong, Complaint::TooLong),
+    (Stop::Device, Complaint::Device),
+    (Stop::NoMemory, Complaint::NoMemory),
 ];
 
-static KINDS: [(ErrorKind, Complaint); 2] = [
-    (ErrorKind::OutOfMemory, Complaint::NoMemory),
-    (ErrorKind::NotFound, Complaint::Device),
+static READS: [(ReadFault, Stop); 3] = [
+    (ReadFault::Stream, Stop::Device),
+    (ReadFault::TooLong, Stop::TooLong),
+    (ReadFault::NoMemory, Stop::NoMemory),
+];
+
+static KINDS: [(ErrorKind, Stop); 2] = [
+    (ErrorKind::OutOfMemory, Stop::NoMemory),
+    (ErrorKind::NotFound, Stop::Device),
 ];
 
 static RULES: [(RulesFault, Complaint); 1] = [(
@@ -128,10 +135,10 @@ static SERVINGS: [(ServeFault, Complaint); 3] = [
     (ServeFault::NoMemory, Complaint::NoMemory),
 ];
 
-/// Whether each of these faults becomes the complaint beside it.
-fn are_complaints<F: Copy + Into<Complaint>>(cases: &[(F, Complaint)]) -> bool {
+/// Whether each of these faults becomes the complaint, or the cause, beside it.
+fn are_complaints<F: Copy + Into<C>, C: PartialEq + Drop>(cases: &[(F, C)]) -> bool {
     for (fault, wanted) in cases {
-        let found: Complaint = (*fault).into();
+        let found: C = (*fault).into();
         if found != *wanted {
             return false;
         }
@@ -142,6 +149,7 @@ fn are_complaints<F: Copy + Into<Complaint>>(cases: &[(F, Complaint)]) -> bool {
 #[test]
 fn faults_have_their_complaints(rt: HostRuntime) {
     assert!(rt; are_complaints(&RUNS));
+    assert!(rt; are_complaints(&STOPS));
     assert!(rt; are_complaints(&READS));
     assert!(rt; are_complaints(&KINDS));
     assert!(rt; are_complaints(&RULES));

@@ -1,7 +1,7 @@
 ghost use Rattle.std.specs.Prelude.{◌<◌};
 
 use super::*;
-use regatta_fixtures::{Streams, status_of};
+use crate::{Streams, status_of};
 use regatta_tables::read_journal;
 use regatta_terms::Refusal;
 

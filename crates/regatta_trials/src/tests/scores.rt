@@ -1,7 +1,7 @@
 //! The calls of scoring, on worked races and series.
 
 use super::*;
-use regatta_fixtures::sheet_after;
+use crate::sheet_after;
 use regatta_scores::{
     BoatLine, Change, Held, MAX_RANKED, NOTHING_HELD, RaceScore, RaceSheet, RowItem, Scored, Work,
     averages, better, excluded, net, race_points, race_scores, ranks,

@@ -1,5 +1,5 @@
 use Rattle.std.proofs.Common.{refl, ◌∙◌}
-use Rattle.regatta_office.proofs.Asking.{stays_local, with_one_more}
+use Rattle.regatta_arguments.proofs.Asking.{stays_local, with_one_more}
 use Rattle.regatta_office.specs.Words.{with_rules}
 use Rattle.regatta_office.proofs.options.with_rules.Goals as goal
 

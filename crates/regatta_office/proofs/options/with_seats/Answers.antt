@@ -1,15 +1,15 @@
-use Rattle.std.proofs.Common.{◌≡◌, codes, false, true, refl, rules, ◌∙◌, ap}
+use Rattle.std.proofs.Common.{◌≡◌, codes, false, refl, rules, ◌∙◌, ap}
 use Rattle.clap.specs.Words.{app_of, rule_of}
-use Rattle.regatta_office.proofs.Asking.{stays_local, with_one_more}
+use Rattle.regatta_arguments.proofs.Asking.{stays_local, with_one_more}
 use Rattle.regatta_terms.specs.declared.limits.TheConstants.{MAX_SEATS}
-use Rattle.regatta_office.specs.Words.{number_option, option, with_seats}
+use Rattle.regatta_arguments.specs.Options.{required}
+use Rattle.regatta_office.specs.Words.{number_option, with_seats}
 use Rattle.regatta_office.proofs.options.with_seats.Goals as goal
 
 pub returns-clause-app : goal.returns-clause-app
 unfolding with_seats
 returns-clause-app c =
-    let path : rule_of c.required-socket.result
-    ≡ record (option (codes "socket")) { required = true } = search rules in
+    let path : rule_of c.required-socket.result ≡ required (codes "socket") = search rules in
     let local : c.required-socket.result.global ≡ false = search rules in
     let most : c.from.result ≡ MAX_SEATS = search rules in
     let socket = c.in_ok-arg.ensures.shape local in

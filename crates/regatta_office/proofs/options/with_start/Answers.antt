@@ -1,5 +1,5 @@
 use Rattle.std.proofs.Common.{rules, ◌∙◌}
-use Rattle.regatta_office.proofs.Asking.{stays_local}
+use Rattle.regatta_arguments.proofs.Asking.{stays_local}
 use Rattle.regatta_office.specs.Words.{with_start}
 use Rattle.regatta_office.proofs.options.with_start.Goals as goal
 

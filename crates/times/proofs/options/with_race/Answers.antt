@@ -1,7 +1,8 @@
 use Rattle.std.proofs.Common.{◌≡◌, codes, false, refl, rules, ◌∙◌}
 use Rattle.clap.specs.Words.{app_of, rule_of}
-use Rattle.times.proofs.Asking.{stays_local, with_one_more}
-use Rattle.times.specs.Words.{required, with_race}
+use Rattle.regatta_arguments.proofs.Asking.{stays_local, with_one_more}
+use Rattle.regatta_arguments.specs.Options.{required}
+use Rattle.times.specs.Words.{with_race}
 use Rattle.times.proofs.options.with_race.Goals as goal
 
 pub returns-clause-app : goal.returns-clause-app

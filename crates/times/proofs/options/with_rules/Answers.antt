@@ -1,5 +1,5 @@
 use Rattle.std.proofs.Common.{refl, ◌∙◌}
-use Rattle.times.proofs.Asking.{stays_local, with_one_more}
+use Rattle.regatta_arguments.proofs.Asking.{stays_local, with_one_more}
 use Rattle.times.specs.Words.{with_rules}
 use Rattle.times.proofs.options.with_rules.Goals as goal
 

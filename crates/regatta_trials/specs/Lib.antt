@@ -1,0 +1,3 @@
+pub mod Past
+pub mod Memory
+pub mod MemoryFiles

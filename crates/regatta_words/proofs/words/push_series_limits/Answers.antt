@@ -1,0 +1,8 @@
+use Rattle.regatta_json.proofs.Texts.{three_parts}
+use Rattle.regatta_words.specs.WordsText.{series_limits}
+use Rattle.regatta_words.proofs.words.push_series_limits.Goals as goal
+
+pub returns-clause-ok : goal.returns-clause-ok
+unfolding series_limits
+returns-clause-ok c = three_parts _ _ _ _ _ _ _ c.in_ok-push_limit.ensures.ok
+    c.in_ok-push_limit-2.ensures.ok c.in_ok-push_limit-3.ensures.ok

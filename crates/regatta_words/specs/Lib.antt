@@ -1,0 +1,5 @@
+pub mod Forms
+pub mod Meanings
+pub mod Senders
+pub mod Sentences
+pub mod WordsText
