@@ -26,6 +26,7 @@ ERROR = f"{OFFICE}.then(office => Math.abs(office.now() - (Date.now() - window.j
 # Milliseconds: an answer that takes up to eight seconds teaches the clock so well at the least.
 NEAR = 5000
 AWAY = "document.querySelector('#link').dataset.state === 'away'"
+LIVE = "document.querySelector('#link').dataset.state === 'live'"
 ASKED = "!!document.querySelector('dialog[open]')"
 
 
@@ -140,7 +141,7 @@ class Clock(ClockTrial):
         ann.reload()
         ann.until("document.querySelectorAll('#list li').length === 2")
         line.mend()
-        ann.until(f"{ASKED} || document.querySelector('#link').dataset.state === 'live'")
+        ann.until(f"{ASKED} || {LIVE}")
         if ann.run(ASKED):
             ann.choose("then")
         self.settle(ann)
@@ -197,18 +198,18 @@ class Timed(ClockTrial):
         moments = [int(second) % DAY for second in range(before - 1, int(after) + 2)]
         self.assertIn(self.finish_in_sheet("GBR7"), moments)
 
-    def test_a_day_ahead(self) -> None:
-        """What a phone keeps of a sail that wasn't read is there after the page is loaded again, also if its clock is a day
-        ahead, and whatever is kept next."""
+    def test_days_ahead(self) -> None:
+        """What a phone keeps of a sail that wasn't read is there after the page is loaded again, also if its clock is days
+        ahead, and was set by one more since, and whatever is kept next."""
         ann = self.wrong(25 * HOUR)
         ann.until("!!document.querySelector('#grid .boat')")
         rows = "document.querySelectorAll('#list li.unread').length"
         for count in (1, 2):
             ann.click("#unread")
             ann.until(f"{rows} === {count}")
-            ann.run(SET.format(0))
+            ann.run(SET.format((25 + 26 * count) * HOUR))
             ann.reload()
-            ann.until(f"{rows} === {count}")
+            ann.until(f"{LIVE} && {rows} === {count}")
             # A finger that bounces is none.
             time.sleep(0.5)
         self.assertEqual(ann.texts("#list li.unread .sail"), ["?1", "?2"])

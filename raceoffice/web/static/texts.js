@@ -77,14 +77,13 @@ export function points(written) {
   return String(written).replace(".", mark);
 }
 
-// A date whose UTC is what the clock of a zone shows. `zone` is as the state of a class has it: since when that clock is ahead
-// of UTC, and by how much.
+// A date whose UTC is what the clock of a class's `zone` shows
 export function byClock(milliseconds, zone) {
   const [, ahead] = zone.findLast(([since]) => since <= milliseconds) ?? zone[0];
   return new Date(milliseconds + ahead);
 }
 
-// A moment of the day, as 14:05:09: sports clocks have 24 hours in every language. Nothing while the zone isn't known.
+// A moment of the day, as 14:05:09, in every language; nothing while the zone isn't known
 export function timeOfDay(milliseconds, zone) {
   return milliseconds && zone ? byClock(milliseconds, zone).toISOString().slice(11, 19) : "";
 }
