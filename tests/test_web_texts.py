@@ -382,7 +382,7 @@ class Scripts(unittest.TestCase):
                 found = set(re.findall(r'from "\./([\w.-]+)"', file.read())) - needed
             needed |= found
             waiting += found
-        self.assertEqual(kept, needed | {"finish-answers.js", "finish-start.js"})
+        self.assertEqual(kept, needed | {"finish-answers.js", "finish-start.js", "questions.js"})
         with open(os.path.join(STATIC, "finish.html"), encoding="utf-8") as file:
             loaded = set(re.findall(r'/office/static/([\w.-]+)"', file.read()))
         self.assertEqual(loaded, needed)

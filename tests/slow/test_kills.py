@@ -174,8 +174,11 @@ class Kills(Served):
         else:
             # What a window sent before it was killed is taken before its link ends.
             helpers.until("the end of its link", lambda: len(os.listdir(files)) <= held)
-        self.serving()
+        files = f"/proc/{self.serving().pid}/fd"
+        held = len(os.listdir(files))
         self.look(said, race)
+        # Else the next trial wouldn't see the end of the link that it waits for.
+        helpers.until("the end of the last link", lambda: len(os.listdir(files)) <= held)
         return steps
 
     def typed(self, stop: int, victim: str, program: int) -> tuple[str, list[str]]:

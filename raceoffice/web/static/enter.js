@@ -3,7 +3,7 @@
 import {byId, element, fill} from "./elements.js";
 import {languageField, loadTexts, text} from "./texts.js";
 import {ask} from "./office.js";
-import {troubleOf} from "./questions.js";
+import {troubleOf} from "./refusals.js";
 
 const ROLES = ["finish", "jury", "scorer"];
 const DEVICES = ["iPad", "iPhone", "Android", "Mac", "Windows"];

@@ -5,7 +5,7 @@ import {ordinal, text} from "./texts.js";
 import {me} from "./office.js";
 import {choose} from "./dialogs.js";
 import {kindOf, spaced} from "./sails.js";
-import {refusalOf} from "./questions.js";
+import {refusalOf} from "./refusals.js";
 import {duration, finishers, heldBy} from "./race-view.js";
 import {answer, askedItem, boatNamed, clock, isHere, named, page, queue, raceNow, shownLine} from "./finish-state.js";
 import {askFinisher, askStrike, askUnread, buzz} from "./finish-taps.js";

@@ -1,5 +1,5 @@
 'use strict';
-// The office's questions and refusals in the words of this page. The office sends a question as its kind and its
+// The office's questions in the words of this page. The office sends a question as its kind and its
 // values, with English words for a kind that this page doesn't know.
 import {hasText, list, text} from "./texts.js";
 import {spaced} from "./sails.js";
@@ -37,16 +37,4 @@ export function wordsOf(question) {
   if (!hasText(key)) return question.text;
   const first = values.counts ? `${text("ask.counts", values)} ` : "";
   return first + text(key, shownValues(values));
-}
-
-// Why a line was refused, by the number that the program gave: "NO 8"
-export function refusalOf(answer, words) {
-  const number = /^NO (\d+)/.exec(answer ?? "")?.[1];
-  return number && hasText(`refused.${number}`) ? text(`refused.${number}`) : words;
-}
-
-// What is wrong with an answer that isn't a result
-export function troubleOf(answer) {
-  const key = `trouble.${answer.status}`;
-  return hasText(key) ? text(key) : answer.words ?? text("common.notSent");
 }

@@ -5,7 +5,7 @@
 // the office does it once.
 import {ask, comeIn, isClockKnown, moment, newId} from "./office.js";
 import {loadRest} from "./texts.js";
-import {troubleOf} from "./questions.js";
+import {troubleOf} from "./refusals.js";
 
 const PREFIX = "tap:";
 const WAITING = ["unsent", "sending", "asked"];

@@ -3,7 +3,8 @@
 // it says, with values; what has none is the same in every language, or in English.
 import {hasText, ordinal, text} from "./texts.js";
 import {moveWords} from "./moves.js";
-import {refusalOf, shownValues} from "./questions.js";
+import {shownValues} from "./questions.js";
+import {refusalOf} from "./refusals.js";
 import {valueWords} from "./remark-words.js";
 
 const NUMBERED = ["entered", "taken-away", "plan"];

@@ -5,7 +5,7 @@ const KEPT = "office-3";
 // Milliseconds for the office to answer, until what is kept is taken
 const PATIENCE = 2500;
 const STATIC = "/office/static/";
-const FILES = ["base.css", "finish.css", "finish.webmanifest", "elements.js", "texts.js", "office.js", "dialogs.js", "sails.js", "questions.js",
+const FILES = ["base.css", "finish.css", "finish.webmanifest", "elements.js", "texts.js", "office.js", "dialogs.js", "sails.js", "questions.js", "refusals.js",
   "queue.js", "race-view.js", "finish-state.js", "finish-taps.js", "finish-answers.js", "finish-grid.js", "finish-list.js", "finish-top.js",
   "finish-dock.js", "finish-start.js", "finish.js"].map(name => STATIC + name);
 const PAGE = "/office/finish/";
