@@ -131,10 +131,13 @@ class Declared(Results):
         status, said = self.declare("final")
         self.assertEqual((status, said["question"]["values"]["devices"], "all the same" in said["question"]["text"]),
                          (409, ["Ann (2)"], True))
-        # A tap that the office answers waits no longer, whether it was taken or not; one that is asked does.
-        for line, status, left in (("FINISH 1 GBR7", 200, "Ann (1)"), ("SCORE 1", 422, "")):
-            tap = held | {"id": new_id(), "line": line}
-            self.assertEqual(self.finish.ask("POST", "/office/finish/line/cup", tap, X_Unsent="2" if left else "1")[0], status)
+        # A device counts the taps beside the one on its way, which waits if somebody is asked about it. What is
+        # asked of the state while a tap is on its way says the same number.
+        for values, beside, status, left in (({"line": "FINISH 1 GBR7"}, "1", 200, "Ann (1)"),
+                                             ({"line": "FINISH 1 FRA9", "series": "0" * 32}, "0", 409, "Ann (1)"),
+                                             ({"line": "SCORE 1"}, "0", 422, "")):
+            tap = held | {"id": new_id()} | values
+            self.assertEqual(self.finish.ask("POST", "/office/finish/line/cup", tap, X_Unsent=beside)[0], status)
             self.assertEqual([one["values"]["devices"] for one in self.shown()["open"] if one["kind"] == "taps-unsent"],
                              [[left]] if left else [])
         self.assertEqual(self.scorer.tap("SCORE 1")[1]["question"]["kind"], "score-missing")

@@ -209,10 +209,10 @@ class Gate:
                 if device.unsent and device.mark != but and self.lets_in(device.mark)]
 
     @staticmethod
-    def note_answered(request: Request, device: Device) -> None:
-        """A tap that a device counted among those that wait has its answer."""
+    def note_waiting(request: Request, device: Device) -> None:
+        """A tap that its device didn't count, as it was on its way, waits there."""
         if "x-unsent" in request.fields:
-            device.unsent = max(0, device.unsent - 1)
+            device.unsent += 1
 
     def note_heard(self) -> None:
         """Writes down when devices were heard, now and then. On a full disk that isn't known, and nothing

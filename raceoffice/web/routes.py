@@ -333,14 +333,12 @@ class Routes:
         raise Wrong(404)
 
     def line(self, request: Request, role: str, device: Device, room: Room) -> Reply:
-        """A tap. It waits on its device no longer once it is taken, or can't be."""
+        """A tap. One that somebody is asked about waits on its device from then on."""
         try:
-            reply = self.tapped(request, role, device, room)
-        except NotSent:
-            self.gate.note_answered(request, device)
+            return self.tapped(request, role, device, room)
+        except (Asked, Elsewhere):
+            self.gate.note_waiting(request, device)
             raise
-        self.gate.note_answered(request, device)
-        return reply
 
     def tapped(self, request: Request, role: str, device: Device, room: Room) -> Reply:
         tap = tap_of(request.values())

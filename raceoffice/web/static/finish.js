@@ -107,7 +107,7 @@ async function begin() {
   nameParts();
   drawKeys();
   listenToKeys();
-  countUnsentBy(() => queue.unsent.length);
+  countUnsentBy(() => queue.unsent.filter(item => item.state !== "sending").length);
   page.redraw = draw;
   takeKept();
   draw();
