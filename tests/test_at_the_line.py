@@ -17,7 +17,7 @@ from raceoffice.session.dialogue import Question
 from raceoffice.session.session import Session
 from raceoffice.web.tap_session import TapSession
 from raceoffice.web.taps import Tap
-from test_order_on_water import OnWater, Phone, Window
+from on_water import OnWater, Phone, Window
 from web_devices import new_id
 
 
