@@ -1,11 +1,10 @@
 //! Serves a series that is kept in a file to clients at a socket.
 ghost use Rattle.std.specs.Prelude.{◌≡◌, ◌≢◌, ◌+◌, [], Some, false, true, map, vec_len};
 ghost use Rattle.std.specs.Prelude.{IfErr, IfOk, OnOk, IsErrOf};
-ghost use Rattle.std.specs.List.Sorted.{IsPermutation};
 ghost use mathlib.Core.List.{IsPrefix};
 ghost use Rattle.regatta_keep.specs.Systems.{system_failed};
 ghost use Rattle.regatta_service.specs.Doors.{streams_asked};
-ghost use Rattle.regatta_service.specs.Faults.{IfBegun, door_failures_in};
+ghost use Rattle.regatta_service.specs.Servings.{AskedDoor, SeatsBack};
 ghost use Rattle.regatta_office.specs.Asked.{AtMostFrom, BeginsKept, PrintsAtMostTable, PrintsTable};
 ghost use Rattle.regatta_office.specs.Asked.{PrintsKeptTable, ServesFrom};
 
@@ -182,15 +181,12 @@ where
     W: TableOutlet,
     requires start { start.history ≡ N.history }
     // The passes of all seats come back.
-    ensures seats { IfOk result.back (λ back.
-        IsPermutation (map (λ p. p.seat) passes.items) (map (λ p. p.seat) back.items)) }
+    ensures seats { IfOk result.back (λ back. SeatsBack passes.items back.items) }
     ensures count { IfOk result.back (λ back. vec_len back ≡ vec_len passes) }
-    ensures door { D.failures door.new ≡ D.failures door.old + door_failures_in result.back }
+    ensures door { AskedDoor D.failures D.closed door.old door.new result.back }
 
-    // Each client that the door gave was admitted once, until the door closed.
+    // Each client that the door gave was admitted once.
     ensures each { D.given door.new ≡ D.given door.old + result.admitted }
-    ensures closed { IfBegun result.back (D.closed door.new ≡ true) }
-    ensures unbegun { IsErrOf result.back ServeFault.NoMemory → door.new ≡ door.old }
 
     // The table is printed even if serving failed, if all of its journal is kept.
     ensures printed { IfOk result.printed (λ kept. PrintsKeptTable N.rules start.journal kept

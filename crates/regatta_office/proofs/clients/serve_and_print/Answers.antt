@@ -38,6 +38,6 @@ returns-clause-count g c = if_ok c.serve_each-back.result.0
       arith,
       back.ok,
       c.args.passes.ok,
-      as_many (λ p. p.seat) c.args.passes.items back.items same,
+      as_many (λ p. p.seat) c.args.passes.items back.items same.same,
     ))
     c.serve_each-back.ensures.seats
