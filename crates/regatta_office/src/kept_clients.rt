@@ -1,12 +1,12 @@
 //! Serves a series that is kept in a file to clients at a socket.
-ghost use Rattle.std.specs.Prelude.{◌≡◌, ◌≢◌, ◌+◌, [], Some, false, true, map, vec_len};
+ghost use Rattle.std.specs.Prelude.{◌≡◌, ◌≢◌, ◌+◌, [], false, vec_len};
 ghost use Rattle.std.specs.Prelude.{IfErr, IfOk, OnOk, IsErrOf};
 ghost use mathlib.Core.List.{IsPrefix};
 ghost use Rattle.regatta_keep.specs.Systems.{system_failed};
 ghost use Rattle.regatta_service.specs.Doors.{streams_asked};
 ghost use Rattle.regatta_service.specs.Servings.{AskedDoor, SeatsBack};
-ghost use Rattle.regatta_office.specs.Asked.{AtMostFrom, BeginsKept, PrintsAtMostTable, PrintsTable};
-ghost use Rattle.regatta_office.specs.Asked.{PrintsKeptTable, ServesFrom};
+ghost use Rattle.regatta_office.specs.Asked.{AtMostFrom, BeginsKept, PrintsAtMostTable};
+ghost use Rattle.regatta_office.specs.Asked.{PrintsKeptTable, ServesFrom, TablePrinted};
 
 use crate::complaint::Complaint;
 use crate::cut_note::note_cut;
@@ -246,10 +246,8 @@ where
     R: Files + Net<Listener = TcpListener, Stream = TcpStream> + Threads + Wait + Clock + Sync,
     W: TableOutlet,
     requires start { start.history ≡ N.history }
-    ensures table { OnOk result
-        (PrintsTable N.rules start.journal (W.contents output.old) (W.contents output.new)) }
-    ensures at_most { PrintsAtMostTable N.rules start.journal (W.contents output.old)
-        (W.contents output.new) }
+    ensures printed { TablePrinted N.rules start.journal (W.contents output.old)
+        (W.contents output.new) result }
 
     // As many seats were served as there are.
     ensures seats { IfOk result (λ back. vec_len back ≡ vec_len passes) }
@@ -291,10 +289,8 @@ where
     requires seats { opened.seats ≡ options.now.clients }
     requires kept { history.history ≡ N.kept }
     requires nothing { history.journal ≡ [] }
-    ensures table { OnOk result
-        (PrintsTable N.rules opened.entries (W.contents output.old) (W.contents output.new)) }
-    ensures at_most { PrintsAtMostTable N.rules opened.entries (W.contents output.old)
-        (W.contents output.new) }
+    ensures printed { TablePrinted N.rules opened.entries (W.contents output.old)
+        (W.contents output.new) result }
 
     // As many seats were served as were asked for.
     ensures seats { IfOk result (λ count. count ≡ options.now.clients) }
