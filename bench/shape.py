@@ -56,7 +56,7 @@ board/kept: number placed after is_scored revise
 board/refusals: act command_act finish of_system unplaced number is_placed
 board/act: on_sheet
 terms/roles: may
-scores/sheet: placed after order_after held_after seconds_after
+scores/sheet: placed after changed with_order with_places
 scores/groups: contains
 scores/orders: with_last
 terms/laws: parts_are_in_range
