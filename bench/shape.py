@@ -112,6 +112,12 @@ def is_definition(line: str) -> bool:
     return bool(line.strip()) and not line.strip().startswith("--")
 
 
+def is_closed(contract: list[str]) -> bool:
+    """Whether no clause is open: a `;` then ends a function that has no body."""
+    text = "\n".join(contract)
+    return text.count("{") == text.count("}")
+
+
 def function_at(crate: str, module: str, lines: list[str], at: int) -> Function | None:
     """The function whose head begins at this line."""
     head = HEAD.match(lines[at])
@@ -126,7 +132,7 @@ def function_at(crate: str, module: str, lines: list[str], at: int) -> Function 
             return found
         if CLAUSE.match(line) or found.contract:
             found.contract += [line] if line.strip() else []
-        if line.endswith(";"):
+        if line.endswith(";") and is_closed(found.contract):
             return found
         at += 1
     for line in lines[at + 1:]:
