@@ -22,6 +22,13 @@ pub record Written {A E : Type 0} (text : List ℕ) (old new : Vec ℕ) (result 
     pub room : vec_capacity old ≤ vec_capacity new
     pub fits : vec_len old + length text ≤ vec_capacity old → IsOk result
 
+-- the text was appended. An error leaves the old text; the capacity is never less
+pub record Appended {A E : Type 0} (text : List ℕ) (old new : Vec ℕ) (result : Result A E) : Type 0
+  where
+    pub ok : OnOk result (new.items ≡ old.items ++ text)
+    pub err : OnErr result (new.items ≡ old.items)
+    pub room : vec_capacity old ≤ vec_capacity new
+
 -- a reply or a part of one was appended. An error leaves the old text, and comes only if there was no
 -- room for a reply; with such room the capacity stays, and it is never less
 pub record Replied {A E : Type 0} (text : List ℕ) (old new : Vec ℕ) (result : Result A E) : Type 0
