@@ -3,7 +3,10 @@ on standard error, and its status."""
 from __future__ import annotations
 
 import contextlib
+import itertools
+import json
 import os
+import re
 import resource
 import shlex
 import signal
@@ -11,8 +14,11 @@ import socket
 import tempfile
 import unittest
 from collections.abc import Iterator
+from typing import Any
 
+import helpers
 from helpers import ran, replayed
+from raceoffice.program.codes import CODES
 
 DEVICE = "regatta: device fault\n"
 NOWHERE = "/no/such/folder/race.sock"
@@ -81,7 +87,7 @@ NO_RULES = {
 REFUSED = [
     "", "serve", "serve --socket s --clients 0", "serve --socket s --clients 17",
     "serve --socket s --sessions 1000001", "serve --socket s --print csv", "replay --socket s", "Replay",
-    "replay replay", "replay --print pdf", "replay --scp", "replay --scp 3 --scp 3", "replay --speed",
+    "replay replay", "words words", "words --scp 3", "replay --print pdf", "replay --scp", "replay --scp 3 --scp 3", "replay --speed",
 ]
 # Arguments that ask for help, and what it names.
 HELP = {
@@ -92,6 +98,7 @@ HELP = {
     "serve --help": [
         "FINISH 1 GBR7", "SHOW", "regatta serve --socket race.sock", "nc -U race.sock",
         "regatta replay --print journal", "--clients", "BUSY", "--sessions", "--entries", "--handicap"],
+    "words --help": ["JSON", "regatta words > words.json"],
 }
 # The text of a journal file and of an entry list; what a run of the line `ENTER C` then prints, and what
 # it says. Rules, journal file, entry list and start are checked in this order.
@@ -139,6 +146,49 @@ LONG = [
     (b"X" * 1_048_571 + b"\nQUIT\n", "NO 20\n", True),
 ]
 
+# The names of the refusals, from 1 on, and of the faults of a line, from 20 on.
+REFUSALS = """
+NoMemory JournalFull OldNumber NotYours EntryFull AlreadyEntered NotEntered AlreadyPlaced NotPlaced Decided
+PenaltyLimit NothingToClear AlreadyScored NotScored NoFinisher WrongSystem
+""".split()
+FAULTS = """
+TooLong NoSuchWord WrongCount BadSail BadRace BadPoints BadCode BadRole BadNumber BadSeconds
+""".split()
+ROLES = ["FINISH", "JURY", "SCORER"]
+# What may stand for each argument of a line.
+ARGUMENTS = {
+    "race": ["1"], "sail": ["A"], "other": ["B"], "seconds": ["5"], "how": ["ALL", "7.5"], "role": ["JURY"],
+    "code": list(CODES), "kind": ["ZFP", "SCP"],
+}
+LIMITS = {"boats": 500, "races": 40, "entries": 8192, "penalties": 9, "scp_points": 99, "line_bytes": 80, "seats": 16}
+
+
+def fits(value: Any, form: dict[str, Any], whole: dict[str, Any]) -> bool:
+    """Whether a JSON value fits the form that a part of a schema has."""
+    if "$ref" in form:
+        return fits(value, whole["$defs"][form["$ref"].rpartition("/")[2]], whole)
+    if "enum" in form:
+        return value in form["enum"]
+    match form["type"]:
+        case "object":
+            parts = form["properties"]
+            return (type(value) is dict and list(value) == form["required"]
+                    and all(fits(part, parts[name], whole) for name, part in value.items()))
+        case "array":
+            return type(value) is list and all(fits(one, form["items"], whole) for one in value)
+        case "integer":
+            return type(value) is int and form.get("minimum", 0) <= value <= form.get("maximum", value)
+        case "boolean":
+            return type(value) is bool
+    return type(value) is str and bool(re.search(form.get("pattern", ""), value))
+
+
+def is_sent(role: str, line: str) -> bool:
+    """Whether a role may send a line: it isn't refused for the role, which is the first refusal looked for."""
+    printed, _, status = replayed(lines=f"ROLE {role}\n{line}\n")
+    first, answer = printed.split("\n")[:2]
+    return (first, answer != "NO 4", status) == (f"ROLE {role}", True, 0)
+
 
 class Arguments(unittest.TestCase):
     def test_options(self) -> None:
@@ -178,6 +228,61 @@ class Arguments(unittest.TestCase):
             printed, said, status = ran(*shlex.split(words), lines="ENTER A\n")
             self.assertEqual((said, status), ("", 0))
             self.assertEqual([name for name in names if name not in printed], [], words)
+
+
+class Words(unittest.TestCase):
+    """The vocabulary, as JSON."""
+
+    @classmethod
+    def setUpClass(cls) -> None:
+        cls.text, said, status = ran("words", lines="ENTER A\n")
+        assert (said, status) == ("", 0), (said, status)
+        cls.whole = json.loads(cls.text)
+
+    def named(self, table: str) -> list[tuple[int, str]]:
+        return [(row["number"], row["name"]) for row in self.whole[table]]
+
+    def test_form(self) -> None:
+        """The document fits its schema, and has a line for each row."""
+        with open(os.path.join(helpers.TOP, "docs", "words.schema.json"), encoding="ascii") as file:
+            schema = json.load(file)
+        self.assertTrue(fits(self.whole, schema, schema))
+        self.assertFalse(fits({**self.whole, "roles": [{}]}, schema, schema))
+        rows = [line.rstrip(",") for line in self.text.splitlines() if line.startswith('{"') and line[-1] != "["]
+        tables = [table for table in self.whole.values() if isinstance(table, list)]
+        self.assertEqual([json.loads(row) for row in rows], [row for table in tables for row in table])
+
+    def test_numbers(self) -> None:
+        """Refusals and faults have their numbers and names, and a sentence each; limits have their figures."""
+        self.assertEqual(self.named("refusals"), list(enumerate(REFUSALS, 1)))
+        self.assertEqual(self.named("faults"), list(enumerate(FAULTS, 20)))
+        sentences = {row["text"] for table in ("refusals", "faults") for row in self.whole[table]}
+        self.assertEqual(len(sentences), len(REFUSALS) + len(FAULTS))
+        self.assertEqual(self.whole["limits"], LIMITS)
+
+    def test_codes(self) -> None:
+        """Each code is as the tools have it."""
+        found = {}
+        for row in self.whole["codes"]:
+            rule = "" if row["rule"] == "A10" else f" (RRS {row['rule']})"
+            found[row["code"]] = (row["meaning"].replace("'", "’") + rule, row["hearing"], row["breach"],
+                                  row["scores_as"] == "DNF", row["came"], row["excludable"])
+        self.assertEqual(found, {
+            word: (code.meaning, code.is_of_jury, code.is_breach, code.is_as_dnf, word != "DNC", word != "DNE")
+            for word, code in CODES.items()})
+        self.assertEqual([row["kind"] for row in self.whole["penalties"]], ["ZFP", "SCP"])
+        self.assertEqual([row["role"] for row in self.whole["roles"]], ROLES)
+
+    def test_who_sends(self) -> None:
+        """A role may send a line, and give a code, exactly if the program takes it."""
+        for row in self.whole["lines"]:
+            verb, *names = row["line"].split()
+            lines = [" ".join([verb, *words]) for words in itertools.product(*(ARGUMENTS[name] for name in names))]
+            sent = {role: any(is_sent(role, line) for line in lines) for role in ROLES}
+            self.assertEqual(row["sent_by"], sent, row["line"])
+        for row in self.whole["codes"]:
+            given = {role: is_sent(role, f"MARK 1 A {row['code']}") for role in ROLES}
+            self.assertEqual(row["given_by"], given, row["code"])
 
 
 class Files(unittest.TestCase):
@@ -277,7 +382,7 @@ class Devices(unittest.TestCase):
 
     def test_output(self) -> None:
         """What fits is printed, also of help."""
-        for words, start in [(["replay"], "OK 1 1 0.0"), (["--help"], "")]:
+        for words, start in [(["replay"], "OK 1 1 0.0"), (["words"], '{"codes":['), (["--help"], "")]:
             with tempfile.TemporaryFile() as printed:
                 _, said, status = ran(*words, lines=RACE, stdout=printed, preexec_fn=ten_bytes,
                                       restore_signals=False)

@@ -12,7 +12,7 @@ use Rattle.clap.proofs.OnLiterals.{clap_on_literals}
 use Rattle.clap.proofs.WalkLemmas.{first_value-rows}
 use Rattle.regatta_arguments.proofs.Asking.{subcommand_is}
 use Rattle.regatta_office.specs.Asked.{ReplayAsked, ServingAsked}
-use Rattle.regatta_office.specs.declared.options.Asked.TheVariants.{Replay, Serve}
+use Rattle.regatta_office.specs.declared.options.Asked.TheVariants.{Replay, Serve, Words}
 use Rattle.regatta_office.specs.Words.{asked_by, regatta, replay_with, serving_with, with_rules}
 use Rattle.regatta_office.specs.Words.{with_seats, with_start}
 
@@ -35,6 +35,13 @@ pub serving_is : {Z : Type 0} (met : Option (Box SubCommand Z)) (f : Found) (ask
 serving_is met f asked named found is = ap asked_by (subcommand_is met _ _ named found)
     ∙ (λ i. option_map Serve (serving_with (λ option. sym (first_value-rows f option) i)))
     ∙ ap (option_map Serve) is
+
+-- `words` asks for the vocabulary
+pub words_is : {Z : Type 0} (met : Option (Box SubCommand Z)) (f : Found)
+    → Some (codes "words") ≡ option_map (λ b. (out-SubCommand (box_value b)).name.now) met
+    → Some (rows_of f) ≡ option_map (λ p. p.1) (subcommand_rows met)
+    → asked_by (subcommand_rows met) ≡ Some Words
+words_is met f named found = ap asked_by (subcommand_is met _ _ named found)
 
 -- the program is of the kind whose matches `clap` specifies
 pub simple : (forms : ValueParser) → is_simple (regatta forms) ≡ true

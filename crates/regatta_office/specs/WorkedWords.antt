@@ -14,7 +14,7 @@ use Rattle.regatta_office.specs.Asked.{Series}
 use Rattle.regatta_arguments.specs.Asking.{AskHelp, AskVersion}
 use Rattle.regatta_office.specs.Words.{asked_of, regatta, with_rules, with_seats, with_start}
 use Rattle.regatta_office.specs.declared.options.Asked.{Asked}
-use Rattle.regatta_office.specs.declared.options.Asked.TheVariants.{Replay, Serve}
+use Rattle.regatta_office.specs.declared.options.Asked.TheVariants.{Replay, Serve, Words}
 
 -- the series by default: A5.2, 20% for a Scoring Penalty, one score excluded from two races on,
 -- places by the finishing order, and no start file
@@ -71,7 +71,9 @@ pub runs : (forms : ValueParser) → Gives (asked_of forms)
     ∷ (
       codes "serve" ∷ codes "--handicap" ∷ codes "--socket=s" ∷ [],
       Some (serving (record default { handicap = true }) 4 0),
-    ) ∷ [])
+    )
+    -- the vocabulary
+    ∷ (codes "words" ∷ [], Some Words) ∷ [])
 unfolding clap_on_literals regatta with_rules with_start with_seats
 runs forms = refl
 
@@ -81,7 +83,8 @@ unfolding clap_on_literals regatta with_rules with_start with_seats
 help forms = (inl refl, inl refl)
 
 -- the faults: no subcommand, an unknown option, the version asked of a subcommand, an option that is
--- given twice, a flag with a value, a serving without a path, and seventeen seats
+-- given twice, a flag with a value, a serving without a path, seventeen seats, and an option of
+-- another subcommand
 pub faults : (forms : ValueParser) → Gives (fault_of (regatta forms))
     (([], MissingSubcommand ∷ [])
     ∷ (codes "replay" ∷ codes "--speed" ∷ [], UnknownArgument ∷ [])
@@ -92,7 +95,8 @@ pub faults : (forms : ValueParser) → Gives (fault_of (regatta forms))
     )
     ∷ (codes "replay" ∷ codes "--handicap=yes" ∷ [], TooManyValues ∷ [])
     ∷ (codes "serve" ∷ [], MissingRequiredArgument ∷ [])
-    ∷ (codes "serve" ∷ codes "--socket=s" ∷ codes "--clients=17" ∷ [], ValueValidation ∷ []) ∷ [])
+    ∷ (codes "serve" ∷ codes "--socket=s" ∷ codes "--clients=17" ∷ [], ValueValidation ∷ [])
+    ∷ (codes "words" ∷ codes "--scp=3" ∷ [], UnknownArgument ∷ []) ∷ [])
 unfolding clap_on_literals regatta with_rules with_start with_seats
 faults forms = refl
 

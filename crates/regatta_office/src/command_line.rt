@@ -12,6 +12,7 @@ use crate::complaint::Complaint;
 use crate::options::{Asked, ReplayOptions, options_of};
 use crate::run::replay;
 use crate::series::beginning_of;
+use crate::vocabulary::print_words;
 use regatta_arguments::{answer_arguments, complain, no_command};
 use regatta_streams::{Sink, Source};
 use std::fs::{File, Files};
@@ -63,6 +64,7 @@ where
     match asked {
         Asked::Replay(options) => replay_series(rt, options, input, output),
         Asked::Serve(options) => serve_series(rt, options, output, errors),
+        Asked::Words => print_words(rt.alloc(), output),
     }
 }
 
@@ -70,7 +72,7 @@ where
 ///
 /// `replay` answers the lines of the input and prints the final table, CSV or journal. `serve`
 /// answers the lines of clients at a new Unix socket, side by side. It prints the final table after
-/// the door has closed.
+/// the door has closed. `words` prints the vocabulary.
 ///
 /// `--absent`, `--scp`, `--exclude` and `--handicap` are the series rules (RRS A5.2 and A5.3,
 /// 44.3(c), A2.1, A3). `--journal` and `--entries` name files to start from. `--print` is the form

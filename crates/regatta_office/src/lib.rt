@@ -23,6 +23,7 @@ mod start_files;
 mod start_list;
 mod stopping_gate;
 mod table_outlet;
+mod vocabulary;
 
 pub use command_line::program;
 pub use complaint::Complaint;

@@ -13,7 +13,7 @@ ghost use Rattle.regatta_office.specs.Words.{serve as serve_of, serving_with};
 ghost use Rattle.regatta_office.specs.Words.{with_seats as with_seats_of};
 ghost use Rattle.regatta_office.specs.Words.{regatta as regatta_of, replay as replay_of};
 ghost use Rattle.regatta_office.specs.Words.{series_by, series_with};
-ghost use Rattle.regatta_office.specs.Words.{with_rules as with_rules_of};
+ghost use Rattle.regatta_office.specs.Words.{with_rules as with_rules_of, words as words_of};
 ghost use Rattle.regatta_office.specs.Words.{with_start as with_start_of};
 
 use crate::form::Form;
@@ -106,6 +106,8 @@ pub(crate) enum Asked<'a> {
     Replay(ReplayOptions<'a>),
     /// To serve clients at a socket.
     Serve(ServeOptions<'a>),
+    /// To print the vocabulary.
+    Words,
 }
 
 /// What the help says of the program.
@@ -122,6 +124,12 @@ static SERVE: &str =
     "Answers lines such as FINISH 1 GBR7 of clients at a new Unix socket, side by side (SHOW gives \
     the journal and the table). Example: regatta serve --socket race.sock --sessions 3 --entries \
     boats.csv, and in a second terminal nc -U race.sock";
+
+/// What the help says of `words`.
+static WORDS: &str =
+    "Prints the vocabulary as JSON: codes and penalties with their meanings, roles and the lines \
+    that each may send, refusals and faults with numbers and sentences, and the limits. Example: \
+    regatta words > words.json";
 
 static ABSENT: &str =
     "What boats score that did not start or finish, retired or were disqualified: \
@@ -254,6 +262,14 @@ fn serve<'a>(alloc: Global) -> Result<Command<'a>, AllocError>
     Ok(command)
 }
 
+/// `words`, which has no options.
+fn words<'a>(alloc: Global) -> Command<'a>
+    ensures app { app_of result ≡ words_of }
+    ensures local { (out-Command result).has_globals ≡ false }
+{
+    Command::new(alloc, "words").about(WORDS)
+}
+
 /// All that the program understands.
 fn regatta<'a>(alloc: Global) -> Result<Command<'a>, AllocError>
     ensures { IfOk result (λ c. (forms : ValueParser) × TakesForms forms
@@ -262,6 +278,7 @@ fn regatta<'a>(alloc: Global) -> Result<Command<'a>, AllocError>
     let command = bare_program(alloc, "regatta", ABOUT)?;
     let command = command.subcommand(replay(alloc)?)?;
     let command = command.subcommand(serve(alloc)?)?;
+    let command = command.subcommand(words(alloc))?;
     Ok(command)
 }
 
@@ -366,9 +383,12 @@ fn run_asked<'a>(matches: &ArgMatches<'a>) -> Option<Asked<'a>>
         let replay = replay_asked(options)?;
         return Some(Asked::Replay(replay));
     }
-    let options = matches.subcommand_matches("serve")?;
-    let serving = serving_asked(options)?;
-    Some(Asked::Serve(serving))
+    if let Some(options) = matches.subcommand_matches("serve") {
+        let serving = serving_asked(options)?;
+        return Some(Asked::Serve(serving));
+    }
+    let _options = matches.subcommand_matches("words")?;
+    Some(Asked::Words)
 }
 
 /// What the arguments ask for. `clap` accepts none without a subcommand.

@@ -1,7 +1,7 @@
 use Rattle.std.proofs.Common.{refl, sym, ◌∙◌}
 use Rattle.clap.specs.Words.{found_of}
 use Rattle.clap.specs.declared.parser.matches.ArgMatches.TheViews.{out-ArgMatches}
-use Rattle.regatta_office.proofs.Asking.{replay_is, serving_is}
+use Rattle.regatta_office.proofs.Asking.{replay_is, serving_is, words_is}
 use Rattle.regatta_office.proofs.options.run_asked.Goals as goal
 
 -- a replay
@@ -12,9 +12,16 @@ returns-in-Some c =
     (sym c.in_ok-replay.was ∙ c.replay_asked.ensures)
 
 -- a serving
+pub returns-in-Some-subcommand_matches : goal.returns-in-Some-subcommand_matches
+returns-in-Some-subcommand_matches c =
+    serving_is (out-ArgMatches c.args.matches.now).subcommand
+    (found_of c.in-Some-subcommand_matches.options.now) c.in_ok-serving.serving
+    (sym (c.in-Some-subcommand_matches.ensures.found.0 refl)) (sym c.in-Some-subcommand_matches.ensures.rows)
+    c.in_ok-serving.ensures
+
+-- the vocabulary
 pub returns : goal.returns
 returns c =
-    serving_is (out-ArgMatches c.args.matches.now).subcommand
-    (found_of c.in_ok-options.options.now) c.in_ok-serving.serving
-    (sym (c.in_ok-options.ensures.found.0 refl)) (sym c.in_ok-options.ensures.rows)
-    c.in_ok-serving.ensures
+    words_is (out-ArgMatches c.args.matches.now).subcommand
+    (found_of c.in_ok-_options._options.now)
+    (sym (c.in_ok-_options.ensures.found.0 refl)) (sym c.in_ok-_options.ensures.rows)
