@@ -1,6 +1,6 @@
 -- What a run may be asked for, and a run that does it.
 use Rattle.std.specs.Prelude.{◌≡◌, ◌≤◌, ℕ, Bool, true, length, List, [], Option, Some, None}
-use Rattle.std.specs.Prelude.{IfSome, OnOk, Ok, Result, ◌⊎◌}
+use Rattle.std.specs.Prelude.{IfOk, IfSome, OnOk, Ok, Result, ◌⊎◌}
 use Rattle.std.specs.Io.KnownBytes.{Appends, Keeps}
 use mathlib.Core.List.{IsPrefix}
 use Rattle.regatta_streams.specs.Texts.{AppendsPrefix}
@@ -155,6 +155,13 @@ PrintsAtMostTable rules start old new =
 pub record TablePrinted {A E : Type 0} (rules : RulesParts) (start : Journal)
     (old new : Option (List ℕ)) (result : Result A E) : Type 0 where
   pub table : OnOk result (PrintsTable rules start old new)
+  pub at_most : PrintsAtMostTable rules start old new
+
+-- such a table was written, of a journal that is a beginning of the one that the result says is kept;
+-- whatever the result, at most such a table was
+pub record KeptTablePrinted {E : Type 0} (rules : RulesParts) (start : Journal)
+    (old new : Option (List ℕ)) (result : Result Journal E) : Type 0 where
+  pub table : IfOk result (λ kept. PrintsKeptTable rules start kept old new)
   pub at_most : PrintsAtMostTable rules start old new
 
 -- nothing was written; or at most such a table, under the rules and from the entries that the

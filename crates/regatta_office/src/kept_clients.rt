@@ -5,8 +5,8 @@ ghost use mathlib.Core.List.{IsPrefix};
 ghost use Rattle.regatta_keep.specs.Systems.{system_failed};
 ghost use Rattle.regatta_service.specs.Doors.{streams_asked};
 ghost use Rattle.regatta_service.specs.Servings.{AskedDoor, SeatsBack};
-ghost use Rattle.regatta_office.specs.Asked.{AtMostFrom, BeginsKept, PrintsAtMostTable};
-ghost use Rattle.regatta_office.specs.Asked.{PrintsKeptTable, ServesFrom, TablePrinted};
+ghost use Rattle.regatta_office.specs.Asked.{AtMostFrom, BeginsKept};
+ghost use Rattle.regatta_office.specs.Asked.{KeptTablePrinted, ServesFrom, TablePrinted};
 
 use crate::complaint::Complaint;
 use crate::cut_note::note_cut;
@@ -105,10 +105,8 @@ where
     requires start { start.history ≡ N.history }
 
     // All that the table is made from is kept.
-    ensures printed { IfOk result (λ kept. PrintsKeptTable N.rules start.journal kept
-        (W.contents output.old) (W.contents output.new)) }
-    ensures at_most { PrintsAtMostTable N.rules start.journal (W.contents output.old)
-        (W.contents output.new) }
+    ensures printed { KeptTablePrinted N.rules start.journal (W.contents output.old)
+        (W.contents output.new) result }
 
     // A failed write is reported as such and as nothing else. Nothing of a journal that isn't kept is
     // printed.
@@ -189,10 +187,8 @@ where
     ensures each { D.given door.new ≡ D.given door.old + result.admitted }
 
     // The table is printed even if serving failed, if all of its journal is kept.
-    ensures printed { IfOk result.printed (λ kept. PrintsKeptTable N.rules start.journal kept
-        (W.contents output.old) (W.contents output.new)) }
-    ensures at_most { PrintsAtMostTable N.rules start.journal (W.contents output.old)
-        (W.contents output.new) }
+    ensures printed { KeptTablePrinted N.rules start.journal (W.contents output.old)
+        (W.contents output.new) result.printed }
     ensures well { OnOk result.printed (W.failures output.new ≡ W.failures output.old) }
 {
     let (back, admitted) = serve_kept(rt, alloc, office, keeper, door, passes, gate);

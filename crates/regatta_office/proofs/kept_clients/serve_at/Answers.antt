@@ -22,6 +22,6 @@ returns-clause-printed g c =
       table = of_ok served.result.printed c.in_ok-served.field-0 c.in_ok-served.was
           (without_kept g.N.OfficeName.rules c.args.start.journal
           (g.W.Device.contents c.args.output.now) (g.W.Device.contents served.new.output)
-          served.result.printed served.ensures.printed);
-      at_most = served.ensures.at_most;
+          served.result.printed served.ensures.printed.table);
+      at_most = served.ensures.printed.at_most;
     }
