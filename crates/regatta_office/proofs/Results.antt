@@ -2,8 +2,8 @@
 use Rattle.std.proofs.Common.{◌≡◌, ◌+◌, ℕ, Option, None, Result, Ok, Err, IsErrOf, refl, ap, ◌∙◌}
 use Rattle.std.proofs.Common.{sym, subst, add-zero}
 use Rattle.regatta_terms.specs.declared.reply.Refusal.{Refusal}
-use Rattle.regatta_office.specs.Faults.{AreCounted, IsDeviceFault, IsRunFaultOf, failed_writes_in}
-use Rattle.regatta_office.specs.Faults.{scribe_fault}
+use Rattle.regatta_office.specs.Faults.{IsDeviceFault, IsRunFaultOf, scribe_fault}
+use Rattle.regatta_office.specs.Faults.{writes_failed_by}
 use Rattle.regatta_office.specs.Starts.{IsRunFault}
 use Rattle.regatta_office.specs.declared.run.RunFault.{RunFault}
 use Rattle.regatta_office.specs.declared.run.RunFault.TheVariants.{Read, Write, NoMemory}
@@ -52,10 +52,9 @@ start_stands due scribe.Write r made none = subst (IsRunFault due) (sym made) no
 start_stands due scribe.NoMemory r made none = subst (IsRunFault due) (sym made) tt
 
 -- and the writer alone may have failed
-pub writer_failed : {T : Type 0} (reads reads' writes mid writes' : ℕ) (fault : ScribeFault)
-    (r : RunFault) → r ≡ scribe_fault fault → reads' ≡ reads → mid ≡ writes
-    → writes' ≡ mid + failed_writes_in {A = T} (Err fault)
-    → IsRunFaultOf reads reads' writes writes' r
+pub writer_failed : (reads reads' writes mid writes' : ℕ) (fault : ScribeFault) (r : RunFault)
+    → r ≡ scribe_fault fault → reads' ≡ reads → mid ≡ writes
+    → writes' ≡ mid + writes_failed_by fault → IsRunFaultOf reads reads' writes writes' r
 writer_failed reads reads' writes mid writes' scribe.Write r made read well counted =
     subst (IsRunFaultOf reads reads' writes writes') (sym made)
     (read, counted ∙ ap (λ (n : ℕ). n + 1) well)
@@ -63,10 +62,9 @@ writer_failed reads reads' writes mid writes' scribe.NoMemory r made read well c
     subst (IsRunFaultOf reads reads' writes writes') (sym made) (read, counted ∙ add-zero mid ∙ well)
 
 -- the same after the start
-pub writer_counted : {T U : Type 0} (reads reads' writes writes' : ℕ) (fault : ScribeFault)
-    (r : RunFault) → r ≡ scribe_fault fault → reads' ≡ reads
-    → writes' ≡ writes + failed_writes_in {A = T} (Err fault)
-    → AreCounted {A = U} reads reads' writes writes' (Err r)
+pub writer_counted : (reads reads' writes writes' : ℕ) (fault : ScribeFault) (r : RunFault)
+    → r ≡ scribe_fault fault → reads' ≡ reads → writes' ≡ writes + writes_failed_by fault
+    → IsDeviceFault reads reads' writes writes' r
 writer_counted reads reads' writes writes' scribe.Write r made read counted =
     subst (IsDeviceFault reads reads' writes writes') (sym made) (read, counted)
 writer_counted reads reads' writes writes' scribe.NoMemory r made read counted =

@@ -18,10 +18,13 @@ scribe_fault scribe.Write = Write
 scribe_fault scribe.NoMemory = NoMemory
 
 -- the number of failed writes: a failed write ends the writing and is reported as what it is
+abbrev pub writes_failed_by : ScribeFault → ℕ
+writes_failed_by scribe.Write = 1
+writes_failed_by scribe.NoMemory = 0
+
 abbrev pub failed_writes_in : {A : Type 0} → Result A ScribeFault → ℕ
 failed_writes_in (Ok done) = 0
-failed_writes_in (Err scribe.Write) = 1
-failed_writes_in (Err scribe.NoMemory) = 0
+failed_writes_in (Err fault) = writes_failed_by fault
 
 -- a fault of a run, with the failures of the reader and the writer, before and after: a failed
 -- device is reported as its own fault and as nothing else
