@@ -87,7 +87,8 @@ NO_RULES = {
 REFUSED = [
     "", "serve", "serve --socket s --clients 0", "serve --socket s --clients 17",
     "serve --socket s --sessions 1000001", "serve --socket s --print csv", "replay --socket s", "Replay",
-    "replay replay", "words words", "words --scp 3", "replay --print pdf", "replay --scp", "replay --scp 3 --scp 3", "replay --speed",
+    "replay replay", "words words", "words --scp 3", "replay --print pdf", "replay --scp",
+    "replay --scp 3 --scp 3", "replay --speed",
 ]
 # Arguments that ask for help, and what it names.
 HELP = {
@@ -160,7 +161,9 @@ ARGUMENTS = {
     "race": ["1"], "sail": ["A"], "other": ["B"], "seconds": ["5"], "how": ["ALL", "7.5"], "role": ["JURY"],
     "code": list(CODES), "kind": ["ZFP", "SCP"],
 }
-LIMITS = {"boats": 500, "races": 40, "entries": 8192, "penalties": 9, "scp_points": 99, "line_bytes": 80, "seats": 16}
+LIMITS = {
+    "boats": 500, "races": 40, "entries": 8192, "penalties": 9, "scp_points": 99, "line_bytes": 80, "seats": 16,
+}
 
 
 def fits(value: Any, form: dict[str, Any], whole: dict[str, Any]) -> bool:
@@ -184,7 +187,7 @@ def fits(value: Any, form: dict[str, Any], whole: dict[str, Any]) -> bool:
 
 
 def is_sent(role: str, line: str) -> bool:
-    """Whether a role may send a line: it isn't refused for the role, which is the first refusal looked for."""
+    """Whether a role may send a line: it isn't refused for the role, which comes before other refusals."""
     printed, _, status = replayed(lines=f"ROLE {role}\n{line}\n")
     first, answer = printed.split("\n")[:2]
     return (first, answer != "NO 4", status) == (f"ROLE {role}", True, 0)
@@ -232,6 +235,8 @@ class Arguments(unittest.TestCase):
 
 class Words(unittest.TestCase):
     """The vocabulary, as JSON."""
+    text: str
+    whole: dict[str, Any]
 
     @classmethod
     def setUpClass(cls) -> None:
@@ -248,12 +253,13 @@ class Words(unittest.TestCase):
             schema = json.load(file)
         self.assertTrue(fits(self.whole, schema, schema))
         self.assertFalse(fits({**self.whole, "roles": [{}]}, schema, schema))
-        rows = [line.rstrip(",") for line in self.text.splitlines() if line.startswith('{"') and line[-1] != "["]
+        rows = [line.rstrip(",") for line in self.text.splitlines()
+                if line.startswith("{") and not line.endswith("[")]
         tables = [table for table in self.whole.values() if isinstance(table, list)]
         self.assertEqual([json.loads(row) for row in rows], [row for table in tables for row in table])
 
     def test_numbers(self) -> None:
-        """Refusals and faults have their numbers and names, and a sentence each; limits have their figures."""
+        """Refusals and faults have their numbers, names and sentences, and limits their figures."""
         self.assertEqual(self.named("refusals"), list(enumerate(REFUSALS, 1)))
         self.assertEqual(self.named("faults"), list(enumerate(FAULTS, 20)))
         sentences = {row["text"] for table in ("refusals", "faults") for row in self.whole[table]}
@@ -265,11 +271,11 @@ class Words(unittest.TestCase):
         found = {}
         for row in self.whole["codes"]:
             rule = "" if row["rule"] == "A10" else f" (RRS {row['rule']})"
-            found[row["code"]] = (row["meaning"].replace("'", "’") + rule, row["hearing"], row["breach"],
-                                  row["scores_as"] == "DNF", row["came"], row["excludable"])
-        self.assertEqual(found, {
-            word: (code.meaning, code.is_of_jury, code.is_breach, code.is_as_dnf, word != "DNC", word != "DNE")
-            for word, code in CODES.items()})
+            meaning = row["meaning"].replace("'", "’") + rule
+            found[row["code"]] = (meaning, row["hearing"], row["breach"], row["scores_as"] == "DNF")
+            self.assertEqual((row["came"], row["excludable"]), (row["code"] != "DNC", row["code"] != "DNE"))
+        self.assertEqual(found, {word: (code.meaning, code.is_of_jury, code.is_breach, code.is_as_dnf)
+                                 for word, code in CODES.items()})
         self.assertEqual([row["kind"] for row in self.whole["penalties"]], ["ZFP", "SCP"])
         self.assertEqual([row["role"] for row in self.whole["roles"]], ROLES)
 
@@ -277,7 +283,7 @@ class Words(unittest.TestCase):
         """A role may send a line, and give a code, exactly if the program takes it."""
         for row in self.whole["lines"]:
             verb, *names = row["line"].split()
-            lines = [" ".join([verb, *words]) for words in itertools.product(*(ARGUMENTS[name] for name in names))]
+            lines = [" ".join((verb, *words)) for words in itertools.product(*[ARGUMENTS[name] for name in names])]
             sent = {role: any(is_sent(role, line) for line in lines) for role in ROLES}
             self.assertEqual(row["sent_by"], sent, row["line"])
         for row in self.whole["codes"]:

@@ -11,6 +11,6 @@ pub room_after : {L : Type 0} (held : L → List ℕ) (may_leave : L → List �
     → length (kept (held old)) + length entries + length more ≤ MAX_ENTRIES
     → HasRoom held may_leave more new
 room_after held may_leave entries more old new are few = record {
-    settled = are.settled;
-    few = omega (arith, few, ap length are.added, length-append (kept (held old)) entries);
-  }
+  settled = are.settled;
+  few = omega (arith, few, ap length are.added, length-append (kept (held old)) entries);
+}
