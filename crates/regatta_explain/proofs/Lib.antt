@@ -1,1 +1,2 @@
 pub mod TwoPieces
+pub mod Unlike

@@ -1,6 +1,6 @@
 -- Which scores an average counts (RRS A9).
-use Rattle.std.specs.Prelude.{◌≡◌, ℕ, ◌+◌, ◌*◌, ◌/◌, List, [], ◌∷◌, length, map, filter, take, remove, zip}
-use Rattle.std.specs.Prelude.{sum_by, nat_eq, if◌then◌else◌}
+use Rattle.std.specs.Prelude.{ℕ, List, [], map, filter, take, remove}
+use Rattle.std.specs.Prelude.{sum_by}
 use Rattle.regatta_scores.specs.declared.boats.Averaged.{Averaged}
 use Rattle.regatta_scores.specs.declared.boats.Averaged.TheVariants.{OverNone, OverAll, OverBefore}
 use Rattle.regatta_scores.specs.declared.boats.RaceScore.{RaceScore}

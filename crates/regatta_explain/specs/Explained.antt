@@ -176,7 +176,7 @@ module _ (rules : RulesParts) (journal : Journal) where
   unfoldable pub document : Document
   document = record {
     rules = rules_part rules;
-    last_entry = last_that_matters journal;
+    last_entry = last_that_matters (scored journal) journal;
     races = map race_rows (filter is_recorded (range_with_len 1 MAX_RACES));
     boats = map boat_rows (standing rules journal).rows;
     neighbours = map neighbour_part (neighbours (standing rules journal).rows);

@@ -1,6 +1,5 @@
 -- What the document says of one race: its groups with their places, and each boat's part in it.
-use Rattle.std.specs.Prelude.{ℕ, ◌+◌, ◌*◌, ◌/◌, Bool, List, [], ◌∷◌, length, map, take, count_by, sum_by}
-use Rattle.std.specs.Prelude.{Option}
+use Rattle.std.specs.Prelude.{ℕ, ◌+◌, ◌*◌, ◌/◌, Bool, List, length, map, take, count_by, sum_by}
 use Rattle.std.specs.List.{enumerate_from}
 use Rattle.regatta_terms.specs.Rules.{RulesParts}
 use Rattle.regatta_scores.specs.declared.sheet.Held.{Held}

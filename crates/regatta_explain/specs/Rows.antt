@@ -5,7 +5,6 @@ use Rattle.regatta_terms.specs.declared.command.Redress as redress_type
 use Rattle.regatta_terms.specs.declared.command.Redress.TheVariants.{Points, AllRaces, RacesBefore}
 use Rattle.regatta_terms.specs.declared.rules.Absent.{Absent}
 use Rattle.regatta_terms.specs.declared.rules.Absent.TheVariants.{A52, A53}
-use Rattle.regatta_terms.specs.declared.sail.Sail.{Sail}
 use Rattle.regatta_terms.specs.Codes.{code_text}
 use Rattle.regatta_terms.specs.Entries.{points_text}
 use Rattle.regatta_scores.specs.declared.table.Abbrev.{Abbrev}

@@ -7,13 +7,17 @@
 mod boats;
 mod documents;
 mod fields;
+mod makers;
 mod parts;
 mod races;
+mod separations;
 mod series;
 mod ties;
 
 pub use documents::write_document;
+pub use makers::{last_entry, place_of, ranks_after};
 pub use parts::{
     BoatPart, BoatRows, Compared, Document, GroupPart, HeldPart, NeighbourPart, RacePart, RaceRows,
     RankPart, RanksAfter, RulesPart, ScorePart, Separation,
 };
+pub use separations::{first_difference, last_difference, separation_of};
