@@ -2,9 +2,9 @@
 """Makes full seasons and times `regatta replay` on them.
 
     bench/season.py [--boats B] [--races N] [--entries E] [--corrected] [--rounds R]
-                    [--beside WORDS] PROGRAM [WORD..]
+                    [--beside WORDS] [--peer PEER] PROGRAM [WORD..]
     bench/season.py [--boats B] [--races N] [--entries E] [--corrected] --instructions
-                    [--beside WORDS] PROGRAM
+                    [--beside WORDS] [--peer PEER] PROGRAM
     bench/season.py [--boats B] [--races N] [--entries E] [--corrected] [--shows] [--handicap]
                     --write FILE
 
@@ -26,13 +26,15 @@ With --handicap among the WORDs each finish, tie and place before another is a c
 order.
 
 The least processor time of each is printed, and the peak memory. With --beside the program of those
-words runs, too, in each round, and the two are compared. With --write the season's lines are written
+words runs, too, in each round, and the two are compared. With --peer the plain program of bench/peer
+runs, too, in both ways of ranking: when a rank is asked, and kept sorted. With --write the season's lines are written
 to FILE, with --shows or --handicap if these are given.
 
 With --instructions the instructions of the season, of the season with SHOWs and of the season by
 corrected times are counted instead, by valgrind. They are the same on a busy machine.
 """
 import argparse
+import itertools
 import math
 import os
 import re
@@ -45,6 +47,8 @@ import zlib
 import corrected
 
 BOATS, RACES, ENTRIES, SHOW_EVERY, LATE = 500, 40, 8192, 16, 40
+# What the peer of bench/peer takes from its environment: how it ranks.
+RANKINGS = ("PEER_RANKING=lazy", "PEER_RANKING=sorted")
 
 
 def race_lines(race, boats, count):
@@ -122,12 +126,19 @@ def text(lines):
     return "".join(line + "\n" for line in lines).encode()
 
 
+def split_settings(program):
+    """The environment and the words of a program, which settings such as `NAME=value` may precede."""
+    count = sum(1 for _ in itertools.takewhile(lambda word: "=" in word, program))
+    return dict(os.environ, **dict(word.split("=", 1) for word in program[:count])), program[count:]
+
+
 def run(program, words, data):
     """The processor seconds, peak MiB, accepted and refused commands of one run."""
+    environment, program = split_settings(program)
     with tempfile.TemporaryFile() as source, tempfile.TemporaryFile() as out:
         source.write(data)
         source.seek(0)
-        child = subprocess.Popen(program + ["replay"] + words, stdin=source, stdout=out)
+        child = subprocess.Popen(program + ["replay"] + words, stdin=source, stdout=out, env=environment)
         _, status, use = os.wait4(child.pid, 0)
         child.returncode = os.waitstatus_to_exitcode(status)
         if child.returncode != 0:
@@ -143,13 +154,21 @@ def run(program, words, data):
 
 def instructions(program, words, data):
     """The number of instructions of one run."""
+    environment, program = split_settings(program)
     counted = subprocess.run(
         ["valgrind", "--tool=callgrind", "--callgrind-out-file=/dev/null", *program, "replay", *words],
-        input=data, stdout=subprocess.DEVNULL, stderr=subprocess.PIPE)
+        input=data, stdout=subprocess.DEVNULL, stderr=subprocess.PIPE, env=environment)
     found = re.search(rb"Collected : (\d+)", counted.stderr)
     if counted.returncode != 0 or not found:
         sys.exit(f"{program[0]} ended with {counted.returncode} under valgrind")
     return int(found[1])
+
+
+def compared(figures):
+    """How the figure of the first program compares with that of each other one."""
+    ratios = [f"{figures[0] / max(other, 1e-9):.2f}" for other in figures[1:]]
+    names = "the other" if len(ratios) == 1 else "the others"
+    return [f"{' and '.join(ratios)} times {names}"] if ratios else []
 
 
 def count(programs, full):
@@ -158,8 +177,7 @@ def count(programs, full):
                                ("a season by times", ["--handicap"], by_times(full))):
         counts = [instructions(program, words, text(lines)) for program in programs]
         parts = [f"{number / 1e6:9.1f} million" for number in counts]
-        if len(counts) > 1:
-            parts.append(f"{counts[0] / counts[1]:.2f} times the other")
+        parts += compared(counts)
         print(f"{name:34} {'   '.join(parts)}")
 
 
@@ -187,8 +205,7 @@ class Bench:
 
     def show(self, name, found):
         parts = [f"{seconds * 1000:8.2f} ms, {peak:5.1f} MiB" for seconds, peak, _, _ in found]
-        if len(found) > 1:
-            parts.append(f"{found[0][0] / max(found[1][0], 1e-9):.2f} times the other")
+        parts += compared([seconds for seconds, *_ in found])
         print(f"{name:34} {'   '.join(parts)}")
 
     def each(self, name, base, more, count):
@@ -225,6 +242,7 @@ def main():
     words.add_argument("--entries", type=int, default=ENTRIES)
     words.add_argument("--rounds", type=int, default=9)
     words.add_argument("--beside", type=shlex.split)
+    words.add_argument("--peer")
     words.add_argument("--corrected", action="store_true")
     words.add_argument("--shows", action="store_true")
     words.add_argument("--handicap", action="store_true")
@@ -247,6 +265,7 @@ def main():
             file.write(text(lines))
     if given.program:
         programs = [[given.program]] + ([given.beside] if given.beside else [])
+        programs += [[ranking, given.peer] for ranking in RANKINGS if given.peer]
         if given.instructions:
             count(programs, make(*size))
         else:

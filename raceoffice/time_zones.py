@@ -1,6 +1,7 @@
 """Moments in words, as pages have them, and the names of time zones."""
 from __future__ import annotations
 
+import bisect
 import datetime
 import functools
 import re
@@ -9,6 +10,8 @@ import zoneinfo
 # Not those of the computer's language: the pages are in English.
 DAYS = ["Mon", "Tue", "Wed", "Thu", "Fri", "Sat", "Sun"]
 MONTHS = ["Jan", "Feb", "Mar", "Apr", "May", "Jun", "Jul", "Aug", "Sep", "Oct", "Nov", "Dec"]
+# Seconds of a week, in which no clock is changed twice.
+WEEK = 7 * 86400
 # The most minutes that a zone is from UTC.
 MOST = 14 * 60
 # The end of a moment in words: `CET (UTC+1)`, `UTC+5:30` or `UTC`.
@@ -28,6 +31,20 @@ def is_name(text: str) -> bool:
 @functools.cache
 def all_zones() -> tuple[zoneinfo.ZoneInfo, ...]:
     return tuple(zoneinfo.ZoneInfo(name) for name in sorted(zoneinfo.available_timezones()) if is_name(name))
+
+
+def changes_of(zone: datetime.tzinfo | None, now: datetime.datetime) -> list[list[int]]:
+    """Since when the clock of a zone is ahead of UTC, and by how much, both in milliseconds, from the beginning of the year
+    before `now` to the end of the year after; None is this computer's zone."""
+    def ahead(at: int) -> datetime.timedelta:
+        return datetime.datetime.fromtimestamp(at, datetime.timezone.utc).astimezone(zone).utcoffset() or datetime.timedelta()
+    first, last = (int(datetime.datetime(year, 1, 1, tzinfo=datetime.timezone.utc).timestamp()) for year in (now.year - 1, now.year + 2))
+    found = [(first, ahead(first))]
+    for at in range(first + WEEK, last, WEEK):
+        if (held := ahead(at)) != found[-1][1]:
+            seconds = range(at - WEEK, at + 1)
+            found.append((seconds[bisect.bisect_left(seconds, True, key=lambda second: ahead(second) == held)], held))
+    return [[since * 1000, int(held.total_seconds() * 1000)] for since, held in found]
 
 
 def has_name(local: datetime.datetime) -> bool:

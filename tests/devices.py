@@ -198,10 +198,12 @@ class Device:
 
 
 class Line:
-    """A network between a device and the office: it passes all on, is cut, or loses the next answer to a tap."""
+    """A network between a device and the office: it passes all on, is cut, or loses the next answer to a tap. Each request
+    takes `slow` seconds more, and one for an address with `held` in it waits as long as there is something in that."""
 
     def __init__(self, port: int) -> None:
         self.port, self.is_cut, self.loses_answer = port, False, False
+        self.slow, self.held = 0.0, b""
         self.lock = threading.Lock()
         self.ends: list[socket.socket] = []
         self.door = socket.create_server(("127.0.0.1", 0))
@@ -238,6 +240,8 @@ class Line:
                     self.loses_answer = False
                     self.cut()
                     return
+                if not is_answer:
+                    self.wait(data)
                 if self.is_cut:
                     return
                 other.sendall(data)
@@ -246,6 +250,11 @@ class Line:
         finally:
             for end in (one, other):
                 shut(end)
+
+    def wait(self, request: bytes) -> None:
+        time.sleep(self.slow)
+        while self.held and self.held in request.split(b"\r")[0] and not self.is_cut:
+            time.sleep(0.02)
 
     def cut(self) -> None:
         with self.lock:

@@ -16,6 +16,7 @@ import tempfile
 import termios
 import time
 import unittest
+import unittest.mock
 from collections.abc import Callable, Iterator, Mapping
 from typing import Any
 
@@ -329,6 +330,17 @@ def file_size(most: int) -> Iterator[None]:
         yield
     finally:
         resource.setrlimit(resource.RLIMIT_FSIZE, before)
+
+
+@contextlib.contextmanager
+def time_zone(name: str) -> Iterator[None]:
+    """A computer that is in another time zone, for this process and those that it starts."""
+    try:
+        with unittest.mock.patch.dict(os.environ, TZ=name):
+            time.tzset()
+            yield
+    finally:
+        time.tzset()
 
 
 @contextlib.contextmanager

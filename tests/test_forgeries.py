@@ -231,15 +231,22 @@ class Forgeries(ForgedPages):
 
     def test_many_series(self) -> None:
         """A page whose series take minutes together isn't waited for."""
-        for seconds, is_verified in [(290.0, True), (310.0, False)]:
-            # The beginning, and then before each of two series.
-            times = iter([0.0, 10.0, seconds])
-            self.verifier = verifier.Verifier(helpers.PROGRAM, lambda: next(times))
-            if is_verified:
-                self.verifier.verified(self.made["both"])
-            else:
-                with self.assertRaisesRegex(Unsure, "^its series take longer than 300 seconds to score$"):
-                    self.verifier.verified(self.made["both"])
+        looks = 0
+        def now() -> float:
+            nonlocal looks
+            looks += 1
+            return 310.0 if looks > late else 290.0 if looks > 1 else 0.0
+
+        late = 1000
+        verifier.Verifier(helpers.PROGRAM, now).verified(self.made["both"])
+        # The time is looked at before each of two series, in them, and before the page is compared.
+        most = looks
+        self.assertGreaterEqual(most, 2 * 3 + 2)
+        for late in range(1, most):
+            looks = 0
+            with self.assertRaisesRegex(Unsure, "^its series take longer than 300 seconds to score$"):
+                verifier.Verifier(helpers.PROGRAM, now).verified(self.made["both"])
+            self.assertEqual(looks, late + 1)
 
     def test_seal_of_another(self) -> None:
         """The seal of an honest page on one of another journal is found."""
@@ -376,6 +383,16 @@ class Forgeries(ForgedPages):
                 self.fail(text[:80])
             self.assertLess(time.process_time() - begun, 1, f"{text[:40]!r} .. {text[-40:]!r}")
 
+    def test_long_decisions(self) -> None:
+        """Decisions that are as long, or as many, as can be take a page no longer than a second."""
+        page = self.made["results"]
+        for lines in (["race 1 GBR7 AVG " + ",".join(["3"] * 500_000)], ["race 1 GBR7 " + "x" * 1_000_000],
+                      [f"race {race} GBR{boat} AVG {','.join(str(one) for one in range(1, 41) if one != race)}"
+                       for boat in range(25) for race in range(1, 41)]):
+            made, begun = resealed(page, lambda whole: whole["series"][0].update({"decisions": lines})), time.process_time()
+            self.why(made)
+            self.assertLess(time.process_time() - begun, 2, lines[0][:40])
+
     def test_long_block(self) -> None:
         """A block of more than the program reads, or of numbers without end, isn't scored."""
         page, whole = self.made["results"], whole_of(self.made["results"])
@@ -385,6 +402,9 @@ class Forgeries(ForgedPages):
                             ("boats", [["A", "A", "", "", ""]] * 600)]:
             self.assertIn("is too long", self.why(resealed(
                 page, lambda whole: whole["series"][0].update({name: value}))))
+        for line in ("race 1 GBR7 NSC\nrace 2 GBR7 NSC", "race 1 GBR7 NSC\r", "race 1 GBR7 NSC # a note", " race 1 GBR7 NSC"):
+            self.assertIn("is no line of the decisions", self.why(resealed(
+                page, lambda whole: whole["series"][0].update({"decisions": [line]}))))
         for number in ("9" * 5_000_000, "1e999999999", "-0.0", "NaN", "Infinity", "1" * 5):
             self.assertIn("a number that raceoffice never writes", self.why(
                 page.replace('"every": 5', f'"every": {number}')))

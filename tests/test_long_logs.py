@@ -36,6 +36,28 @@ class OfficeLog(helpers.Series):
             file.write(b"x" * (1 << 20) + REFUSED.replace(b"NO 8", b"OK 13") + REFUSED.replace(b"NO 8", b"OK 14").strip())
         self.assertEqual([entry.answer for entry in self.folder.logged()], ["0123456789ab", "OK 12"])
 
+    def test_read_again(self) -> None:
+        """A page that asks again costs next to nothing: only what has come since is read. Another file in its place is read
+        whole, also one that is as long, and one that was changed."""
+        self.folder.logged()
+        used = time.process_time()
+        for answer in ("OK 12", "OK 13"):
+            self.folder.log("Ben", "2", "FINISH", "FINISH 1 GBR7", answer)
+            self.assertEqual(self.folder.logged()[-1].answer, answer)
+        self.assertLess(time.process_time() - used, 0.3)
+        path = self.folder.file(log.LOG)
+        self.folder.logged().clear()
+        self.assertEqual(len(self.folder.logged()), 3)
+        line = REFUSED.replace(b"NO 8", b"OK 14")
+        for at, (is_new, data) in enumerate([(True, line), (False, line.replace(b"14", b"15")), (True, line), (False, line * 3), (False, b"")]):
+            if is_new:
+                os.remove(path)
+            with open(path, "wb") as file:
+                file.write(data)
+            os.utime(path, (at, at))
+            self.assertEqual([entry.answer for entry in self.folder.logged()],
+                             [text.rsplit("\t", 1)[1] for text in data.decode().splitlines()], at)
+
     def test_commands(self) -> None:
         """The series is checked, and its results are announced."""
         for words in (["check", "cup"], ["provisional", "cup"]):

@@ -2,8 +2,10 @@
 and undos. Each order is compared with when everybody crossed the line, which the check knows by itself."""
 from __future__ import annotations
 
+import json
 import os
 import random
+import time
 import unittest
 from collections.abc import Callable, Mapping
 from typing import Any
@@ -15,6 +17,7 @@ from raceoffice.remarks import remark
 from raceoffice.series.folder import Folder
 from raceoffice.session.dialogue import Question
 from raceoffice.session.session import Session
+from raceoffice.web.corrections import correct
 from raceoffice.web.finish_order import Elsewhere
 from raceoffice.web.room import Room
 from raceoffice.web.tap_session import Asked
@@ -138,6 +141,46 @@ class Window(Device):
         return {"mark": found.mark, "id": ""} if found.is_taken else None
 
 
+class Scorer(Device):
+    """Somebody who corrects by pointing."""
+
+    def __init__(self, room: Room) -> None:
+        super().__init__()
+        self.room = room
+
+    def correct(self, lines: list[str]) -> bool:
+        """Sends the lines of a correction; whether it was done."""
+        values: dict[str, Any] = {"id": new_id(), "lines": list(lines), "agreed": []}
+        while True:
+            try:
+                return correct(self.room, values, "Cy")["outcome"] == "taken"
+            except Asked as asked:
+                if not self.answer(asked.question):
+                    return False
+                values["agreed"].append({"kind": asked.question.kind, "values": dict(asked.question.values)})
+
+    def send(self, race: int, line: str, undoes: str = "") -> Mapping[str, Any] | None:
+        """Moves a boat by the line that puts her elsewhere."""
+        return {"id": ""} if self.correct([f"STRIKE {race} {line.split()[2]}", line]) else None
+
+
+def lines_of_swap(order: list[list[str]], race: int, one: str, other: str) -> list[str]:
+    """The lines after which two boats stand where the other stood, as the page has them."""
+    boats = [group for group in order if "?" not in group[0]]
+    first, second = (one, other) if order.index(group_of(order, one)) < order.index(group_of(order, other)) else (other, one)
+    group = group_of(order, first)
+    level = next((sail for sail in group if sail != first), "")
+    next_one = boats[boats.index(group) + 1][0]
+    place = order[order.index(group) + 1][0]
+    back = f"TIE {race} {second} {level}" if level else " ".join(
+        [f"BEFORE {race} {second} {first if next_one == second else next_one}", *([place] if "?" in place else [])])
+    return [f"STRIKE {race} {first}", f"TIE {race} {first} {second}", f"STRIKE {race} {second}", back]
+
+
+def group_of(order: list[list[str]], sail: str) -> list[str]:
+    return next(group for group in order if sail in group)
+
+
 class OnWater(helpers.Series):
     def setUp(self) -> None:
         super().setUp()
@@ -147,13 +190,17 @@ class OnWater(helpers.Series):
         self.addCleanup(lambda: self.room.close())
         self.phone, self.window_bob = Phone(self.room, "Ann"), Window(folder, "Bob")
         self.addCleanup(self.window_bob.session.disconnect)
+        self.scorer = Scorer(self.room)
 
+    def shown(self, race: int) -> Any:
+        """What a page shows of a race."""
+        self.room.look()
+        values: Any = self.room.state(False)["races"]
+        return values.get(str(race), {"order": [], "unread": []})
 
     def seen(self, race: int) -> list[list[str]]:
         """The order of a race with the places that are kept."""
-        self.room.look()
-        values: Any = self.room.state(False)["races"]
-        shown = values.get(str(race), {"order": [], "unread": []})
+        shown = self.shown(race)
         found = list[list[str]]()
         for at, group in enumerate([*shown["order"], []]):
             found += [[unread["mark"]] for unread in shown["unread"] if unread["after"] == at]
@@ -367,6 +414,160 @@ class AsRecorded(OnWater):
         self.assertEqual(self.at(90, "Ann", "FINISH 2 FRA9", behind="NED12"), "taken")
         self.assertEqual(self.seen(2), [["NED12"], ["IRL5"], ["FRA9"]])
 
+    def test_moments_that_are_shown(self) -> None:
+        """A boat that is known later is shown with the moment of her place, wherever that was kept and she is named."""
+        self.at(0, "Ann", "FINISH 1 NED12", behind="")
+        for second in (10, 20):
+            self.at(second, "Ann", "? 1", behind="NED12")
+        self.at(30, "Ann", "FINISH 1 FRA9", behind="NED12")
+        self.at(1800, "Bob", "?1 1 GBR7")
+        self.window_bob.send(1, "?2 1 IRL5")
+        moments = {"NED12": 1_000_000, "GBR7": 1_010_000, "IRL5": 1_020_000, "FRA9": 1_030_000}
+        self.assertEqual(self.shown(1)["at"], moments)
+        self.assertEqual([*self.shown(1)["by"].values()], ["Ann", "Bob", "Bob", "Ann"])
+        before = int(time.time()) * 1000
+        self.window_bob.send(2, "? 2")
+        after = int(time.time() * 1000)
+        time.sleep(1.1)
+        self.at(1800, "Ann", "?1 2 GBR7")
+        self.assertTrue(before <= self.shown(2)["at"]["GBR7"] <= after, self.shown(2))
+        # Once she has finished again, that doesn't count any more.
+        self.at(1810, "Ann", "STRIKE 2 GBR7")
+        self.at(1820, "Ann", "FINISH 2 GBR7", behind=None)
+        self.assertEqual(self.shown(2)["at"], {"GBR7": 2_820_000})
+
+    # Lines that come some time after their boat was seen
+
+    def correct(self, race: int, second: float, lines: str) -> None:
+        """The scorer corrects an order at some second."""
+        sent = [" ".join([first, str(race), *rest]) for first, *rest in map(str.split, lines.split(", "))]
+        done = correct(self.room, {"id": new_id(), "at": 1_000_000 + 1000 * second, "agreed": [], "lines": sent}, "Cy")
+        self.assertEqual(done["outcome"], "taken")
+
+    def finished(self, race: int, order: str) -> None:
+        """These finish, one every ten seconds."""
+        for at, sail in enumerate(order.split()):
+            self.assertEqual(self.at(10 * at, "Bob", f"FINISH {race} {sail}", behind=None), "taken")
+
+    def told(self, second: float, line: str, **more: object) -> Any:
+        """What is asked of a late tap, as a page sends it back."""
+        with self.assertRaises(Elsewhere) as found:
+            self.room.do("FINISH", "Ann", Tap.read({"id": new_id(), "line": line, "at": 1_000_000 + 1000 * second, **more}))
+        return json.loads(json.dumps({"kind": found.exception.question.kind, "values": found.exception.question.values}))
+
+    def untimed(self, second: float, line: str, **more: object) -> object:
+        """Of whom it is said that no tap shows when they finished."""
+        return tuple(self.told(second, line, **more)["values"]["untimed"])
+
+    def swap(self, race: int, one: str, other: str) -> bool:
+        return self.scorer.correct(lines_of_swap(self.seen(race), race, one, other))
+
+    def test_swap_and_places(self) -> None:
+        """Each of two boats stands where the other stood, and the places between stay there."""
+        kept = "FINISH NED12, ?, ?, FINISH GBR7, ?, FINISH FRA9"
+        self.check(1, kept, "NED12 ?1 ?2 GBR7 ?3 FRA9")
+        for one, other, order in (("NED12", "GBR7", "GBR7 ?1 ?2 NED12 ?3 FRA9"), ("FRA9", "GBR7", "FRA9 ?1 ?2 NED12 ?3 GBR7"),
+                                  ("NED12", "GBR7", "FRA9 ?1 ?2 GBR7 ?3 NED12")):
+            self.assertTrue(self.swap(1, one, other))
+            self.assertEqual(self.seen(1), [[name] for name in order.split()])
+        self.check(1, "?2 IRL5, ?3 GBR33, ?1 GBR101", "FRA9 GBR101 IRL5 GBR7 GBR33 NED12")
+        self.check(2, "FINISH NED12, ?, FINISH FRA9, TIE GBR33 NED12", "NED12=GBR33 ?1 FRA9")
+        self.assertTrue(self.swap(2, "NED12", "FRA9"))
+        self.assertEqual(self.seen(2), [["FRA9", "GBR33"], ["?1"], ["NED12"]])
+
+    def test_swap_and_a_place_that_is_known(self) -> None:
+        """Nothing is sent if somebody has said meanwhile who was at the place between."""
+        self.check(1, "FINISH NED12, ?, FINISH FRA9", "NED12 ?1 FRA9")
+        lines = lines_of_swap(self.seen(1), 1, "NED12", "FRA9")
+        self.check(1, "?1 GBR7", "NED12 GBR7 FRA9")
+        self.assertRaises(NotSent, self.scorer.correct, lines)
+        self.assertEqual(self.seen(1), [["NED12"], ["GBR7"], ["FRA9"]])
+
+    def test_move_behind_a_place(self) -> None:
+        """It is asked before anything is sent whether a boat is behind a place now, and after a No nothing is."""
+        self.check(1, "FINISH NED12, ?, FINISH FRA9", "NED12 ?1 FRA9")
+        self.check(2, "FINISH FRA9, FINISH NED12, ?", "FRA9 NED12 ?1")
+        for race, line, order in ((1, "BEFORE 1 NED12 FRA9", "?1 NED12 FRA9"), (2, "FINISH 2 NED12", "FRA9 ?1 NED12")):
+            before, self.scorer.answers, self.scorer.asked = self.seen(race), [False], []
+            self.assertIsNone(self.scorer.send(race, line))
+            self.assertEqual((self.scorer.asked, self.seen(race)), (["?1"], before))
+            self.assertIsNotNone(self.scorer.send(race, line))
+            self.assertEqual(self.seen(race), [[name] for name in order.split()])
+
+    def test_moment_of_a_swap(self) -> None:
+        """The moment of a correction isn't that at which its boats finished."""
+        self.finished(1, "NED12 GBR7 FRA9")
+        self.correct(1, 300, "STRIKE NED12, TIE NED12 GBR7, STRIKE GBR7, BEFORE GBR7 NED12")
+        late = {"line": "FINISH 1 IRL5", "behind": "GBR7"}
+        self.assertEqual(self.at(15, "Ann", **late), (("NED12", "FRA9"), "BEFORE 1 IRL5 FRA9"))
+        self.assertEqual(self.untimed(15, **late), ("NED12",))
+        agreed = [self.told(15, **late)]
+        self.room.close()
+        self.room = self.phone.room = Room(Folder(os.path.join(self.here, "cup")), lambda: None)
+        self.assertEqual(self.at(15, "Ann", **late, by_clock=True, agreed=agreed), "taken")
+        self.assertEqual(self.seen(1), [["GBR7"], ["NED12"], ["IRL5"], ["FRA9"]])
+        # Whoever is behind her by the scorer's hand is no earlier.
+        self.finished(2, "NED12 GBR7 FRA9")
+        self.correct(2, 300, "STRIKE NED12, FINISH NED12")
+        self.assertEqual(self.at(15, "Ann", "FINISH 2 IRL5", behind="GBR7"), (("FRA9", "NED12"), "BEFORE 2 IRL5 FRA9"))
+        self.assertEqual(self.untimed(15, "FINISH 2 IRL5", behind="GBR7"), ())
+        self.assertEqual(self.untimed(25, "FINISH 2 IRL5", behind="FRA9"), ("NED12",))
+
+    def test_moment_of_a_boat_that_the_scorer_adds(self) -> None:
+        """No clock says where a late boat, or a place, belongs beside a boat that the scorer has added."""
+        ways: list[tuple[str, str]] = [("FINISH {} IRL5", "NED12 FRA9 IRL5"), ("? {}", "NED12 FRA9 ?1")]
+        for race, (form, order) in enumerate(ways, 1):
+            self.finished(race, "NED12")
+            tap, line = {"id": new_id(), "line": f"FINISH {race} FRA9", "at": 1_300_000}, form.format(race)
+            self.assertEqual(self.room.do("SCORER", "Cy", Tap.read(tap))["outcome"], "taken")
+            self.assertEqual(self.at(100, "Ann", line, behind="NED12"), (("FRA9",), line))
+            self.assertEqual(self.untimed(100, line, behind="NED12", by_clock=True), ("FRA9",))
+            self.assertIn(self.at(100, "Ann", line, behind=None), ("taken", "noted"))
+            self.assertEqual(self.seen(race), [[name] for name in order.split()])
+
+    def test_typed_beside_a_late_tap(self) -> None:
+        """Of boats that were typed in a window the clock says nothing. Whoever goes by it for all late taps is asked about
+        those beside such a boat all the same."""
+        self.window_bob.send(1, "FINISH 1 GBR7")
+        self.assertEqual(self.at(-60, "Ann", "FINISH 1 IRL5", behind=""), (("GBR7",), "FINISH 1 IRL5"))
+        self.assertEqual(self.untimed(-60, "FINISH 1 IRL5", behind="", by_clock=True), ("GBR7",))
+        ways: list[tuple[str, str]] = [("FINISH {} IRL5", "NED12 GBR7 IRL5 FRA9 GBR33"), ("? {}", "NED12 GBR7 ?1 FRA9 GBR33")]
+        for race, (form, order) in enumerate(ways, 2):
+            self.finished(race, "NED12")
+            self.window_bob.send(race, f"FINISH {race} GBR7")
+            self.at(20, "Bob", f"FINISH {race} FRA9", behind=None)
+            self.window_bob.send(race, f"FINISH {race} GBR33")
+            late: dict[str, Any] = {"line": form.format(race), "behind": "NED12"}
+            asked = self.told(15, **late, by_clock=True)
+            self.assertEqual((asked["values"]["ahead"], asked["values"]["untimed"]), ("FRA9", ["GBR7"]))
+            of_none = {"kind": asked["kind"], "values": {**asked["values"], "untimed": ["GBR101"]}}
+            self.assertEqual(self.told(15, **late, by_clock=True, agreed=[of_none]), asked)
+            self.assertIn(self.at(15, "Ann", **late, by_clock=True, agreed=[asked]), ("taken", "noted"))
+            self.assertEqual(self.seen(race), [[name] for name in order.split()])
+
+    def test_moment_of_an_undo(self) -> None:
+        """A boat whose strike is undone finished when she was tapped, or when her place was kept."""
+        self.finished(1, "NED12 FRA9")
+        self.at(0, "Bob", "FINISH 2 NED12", behind="")
+        self.at(10, "Bob", "? 2", behind="NED12")
+        self.at(300, "Bob", "?1 2 FRA9")
+        for race in (1, 2):
+            struck = Tap.read({"id": new_id(), "line": f"STRIKE {race} FRA9", "at": 1_310_000})
+            self.room.do("FINISH", "Bob", struck)
+            self.at(320, "Bob", "UNDO", undoes=struck.id)
+            self.assertEqual(self.at(90, "Ann", f"FINISH {race} IRL5", behind="NED12"), "taken")
+            self.assertEqual(self.seen(race), [["NED12"], ["FRA9"], ["IRL5"]])
+
+    def test_moment_of_a_boat_by_another(self) -> None:
+        """A boat that is put level with another finished when that did; of one that is put ahead of another it isn't
+        known."""
+        for race, command in enumerate(("TIE", "BEFORE"), 1):
+            self.finished(race, "NED12 FRA9")
+            self.at(300, "Bob", f"{command} {race} GBR7 FRA9")
+            self.at(310, "Bob", f"STRIKE {race} FRA9")
+        self.assertEqual(self.at(90, "Ann", "FINISH 1 IRL5", behind="NED12"), "taken")
+        self.assertEqual(self.untimed(90, "FINISH 2 IRL5", behind="NED12"), ("GBR7",))
+
     def test_late_boat_that_was_struck(self) -> None:
         """A boat that was struck arrives late: by the clock she is ahead of a place that she was behind, or between two
         that she was ahead of."""
@@ -425,8 +626,9 @@ class AsRecorded(OnWater):
 class Sequence:
     """A race, recorded at random."""
 
-    def __init__(self, race: int, dice: random.Random, devices: list[Device], seen: Callable[[int], list[list[str]]]) -> None:
-        self.race, self.dice, self.devices, self.seen = race, dice, devices, seen
+    def __init__(self, race: int, dice: random.Random, devices: list[Device], scorer: Scorer,
+                 seen: Callable[[int], list[list[str]]]) -> None:
+        self.race, self.dice, self.devices, self.scorer, self.seen = race, dice, devices, scorer, seen
         self.water, self.log = Water(), list[str]()
         for device in devices:
             device.done = []
@@ -443,6 +645,8 @@ class Sequence:
         ways += [self.strike] * 2 if water.boats() else []
         ways += [self.know] * 3 if out and water.marks() else []
         ways += [self.drop] if water.marks() else []
+        if len(water.boats()) > 1:
+            ways += [self.move, self.swap]
         dice.choice(ways)(device)
         order = water.order()
         found = self.seen(self.race)
@@ -479,6 +683,33 @@ class Sequence:
     def ahead(self, device: Device) -> None:
         sail, other = self.out(), self.dice.choice(self.water.boats())
         self.came(device, sail, f"BEFORE {self.race} {sail} {other}", self.water.just_ahead(other))
+
+    def move(self, _: Device) -> None:
+        """The scorer moves a boat ahead of another, or after all."""
+        water, scorer = self.water, self.scorer
+        scorer.asked, scorer.answers = [], [self.dice.random() < 0.5 for _ in range(6)]
+        sail, other = self.dice.sample(water.boats(), 2)
+        is_last = self.dice.random() < 0.3
+        water.here.discard(sail)
+        line = f"FINISH {self.race} {sail}" if is_last else f"BEFORE {self.race} {sail} {other}"
+        self.came(scorer, sail, line, water.last() if is_last else water.just_ahead(other))
+        water.here.add(sail)
+
+    def swap(self, _: Device) -> None:
+        """The scorer swaps two boats."""
+        water = self.water
+        one, other = self.dice.sample(water.boats(), 2)
+        if water.when[one] == water.when[other]:
+            return
+        lines = lines_of_swap(self.seen(self.race), self.race, one, other)
+        self.log.append(str(lines))
+        self.scorer.correct(lines)
+        water.when[one], water.when[other] = water.when[other], water.when[one]
+        for sail in (one, other):
+            water.come(sail, water.when[sail])
+        # The page doesn't know of boats and places that aren't there any more.
+        for device in self.devices:
+            device.done = [done for done in device.done if done[1] not in ("struck", "dropped")]
 
     def level(self, device: Device) -> None:
         sail, other = self.out(), self.dice.choice(self.water.boats())
@@ -675,7 +906,7 @@ class AtRandom(OnWater):
             if race == 1 and seed > first:
                 self.doCleanups()
                 self.setUp()
-            sequence = Sequence(race, random.Random(seed), [self.phone, self.window_bob], self.seen)
+            sequence = Sequence(race, random.Random(seed), [self.phone, self.window_bob], self.scorer, self.seen)
             with self.subTest(seed=seed):
                 for _ in range(STEPS):
                     sequence.step()

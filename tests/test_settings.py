@@ -1,12 +1,36 @@
 """The settings: every key, its misspelling, and what a change leaves as it was."""
 from __future__ import annotations
 
+import datetime
 import os
 import unittest
+import zoneinfo
 
 import helpers
+from raceoffice import time_zones
 from raceoffice.errors import Trouble
 from raceoffice.series import settings
+
+
+class Clocks(unittest.TestCase):
+    """By how much the clock of a zone is ahead of UTC."""
+
+    def changes(self, zone: datetime.tzinfo | None) -> list[tuple[str, float]]:
+        found = time_zones.changes_of(zone, datetime.datetime(2026, 6, 1, tzinfo=datetime.timezone.utc))
+        return [(f"{datetime.datetime.fromtimestamp(since / 1000, datetime.timezone.utc):%Y-%m-%d %H:%M:%S}", ahead / 3_600_000)
+                for since, ahead in found]
+
+    def test_changes(self) -> None:
+        """From the beginning of last year to the end of the next one, to the second."""
+        self.assertEqual(self.changes(zoneinfo.ZoneInfo("Europe/Berlin")), [
+            ("2025-01-01 00:00:00", 1.0), ("2025-03-30 01:00:00", 2.0), ("2025-10-26 01:00:00", 1.0), ("2026-03-29 01:00:00", 2.0),
+            ("2026-10-25 01:00:00", 1.0), ("2027-03-28 01:00:00", 2.0), ("2027-10-31 01:00:00", 1.0)])
+        self.assertEqual(self.changes(zoneinfo.ZoneInfo("Australia/Lord_Howe"))[:2],
+                         [("2025-01-01 00:00:00", 11.0), ("2025-04-05 15:00:00", 10.5)])
+
+    def test_of_this_computer(self) -> None:
+        with helpers.time_zone("Asia/Kathmandu"):
+            self.assertEqual(self.changes(None), [("2025-01-01 00:00:00", 5.75)])
 
 
 class Settings(unittest.TestCase):

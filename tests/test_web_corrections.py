@@ -62,14 +62,14 @@ class Corrections(Web):
             self.assertEqual(self.correct(MOVE, device=self.device(role))[0], 404)
         self.assertEqual((len(self.journal()), self.left()), (3, []))
 
-    def half_done(self) -> str:
-        """A move, after whose first line the web has died."""
-        id = new_id()
+    def half_done(self, *more: dict[str, object]) -> str:
+        """A move, after whose first line the web has died, and what else it has noted of it."""
+        id = "0" * 32 if more else new_id()
         self.scorer.tap(MOVE[0], part_id(id, 0))
         self.kill()
         note = {"id": f"{id}/lines", "lines": [["SCORER", line] for line in MOVE]}
         noted = self.text(*TAPS).splitlines()
-        self.write("\n".join([*noted[:-2], json.dumps(note), *noted[-2:], ""]), *TAPS)
+        self.write("\n".join([*noted[:-2], json.dumps(note), *noted[-2:], *map(json.dumps, more), ""]), *TAPS)
         self.serve()
         self.scorer = self.scorer.again()
         self.assertEqual(self.left(), [{"id": id, "lines": MOVE[1:]}])
@@ -86,8 +86,25 @@ class Corrections(Web):
         """What is left isn't sent, nor shown, once somebody has said so: not even if the first request comes again."""
         id = self.half_done()
         self.assertEqual(self.correct([], id, leave=True)[1]["outcome"], "left")
-        self.assertEqual(len(self.correct(MOVE, id)[1]["done"]), 1)
-        self.assertEqual((self.left(), self.journal()[3:]), ([], [f"SCORER {MOVE[0]}"]))
+        for lines in (MOVE, MOVE[1:]):
+            found = self.correct(lines, id)[1]
+            self.assertEqual((found["outcome"], len(found["done"]), found["left"]), ("left", 1, MOVE[1:]))
+            self.assertEqual((self.left(), self.journal()[3:]), ([], [f"SCORER {MOVE[0]}"]))
+
+    def test_left_unsent(self) -> None:
+        """Nor is a line that was noted when the web died, and that never came to the office."""
+        id = self.half_done({"id": part_id("0" * 32, 1), "role": "SCORER", "line": MOVE[1], "at": 1, "by": "Bea", "entries": 4})
+        self.correct([], id, leave=True)
+        self.assertEqual(self.correct(MOVE, id)[1]["outcome"], "left")
+        self.assertEqual(self.journal()[3:], [f"SCORER {MOVE[0]}"])
+
+    def test_completed_elsewhere(self) -> None:
+        """What another window has sent meanwhile is done: who sends the rest, too, hears so."""
+        id = self.half_done()
+        for _ in range(2):
+            found = self.correct(MOVE[1:], id)[1]
+            self.assertEqual((found["outcome"], len(found["done"]), found["left"]), ("taken", 2, []))
+        self.assertEqual(self.journal()[3:], [f"SCORER {line}" for line in MOVE])
 
     def test_refused_later(self) -> None:
         """The boat that she was to come ahead of was struck meanwhile: the office refuses what is left, which is shown until
@@ -95,7 +112,8 @@ class Corrections(Web):
         id = self.half_done()
         self.scorer.tap("STRIKE 1 GBR101")
         for _ in range(2):
-            self.assertEqual(self.correct(MOVE[1:], id)[1]["done"][-1]["outcome"], "refused")
+            found = self.correct(MOVE[1:], id)[1]
+            self.assertEqual((found["outcome"], found["done"][-1]["outcome"], found["left"]), ("refused", "refused", MOVE[1:]))
             self.assertEqual(self.left(), [{"id": id, "lines": MOVE[1:]}])
         self.correct([], id, leave=True)
         self.assertEqual(self.left(), [])

@@ -19,7 +19,7 @@ from raceoffice.web import hosting
 from raceoffice.web.gate import Gate
 from raceoffice.web.hosting import Host, Hub, Waiting
 from raceoffice.web.rates import Rate
-from raceoffice.web.requests import Reply, Request, Wrong
+from raceoffice.web.requests import HEAD, Reply, Request, Wrong, packed, request_of
 from raceoffice.web.routes import Routes
 from raceoffice.web.web_office import WebOffice
 from web_devices import BOATS, Device, Web, list_of, new_id
@@ -261,6 +261,9 @@ class Attacks(unittest.TestCase):
                              (400, self.head("/office/in", -5)), (400, "GET  / HTTP/1.1\r\n\r\n"),
                              (400, "GET / HTTP/1.1\r\nHost: a\r\nHost: b\r\n\r\n"),
                              (400, "GET / HTTP/1.1\r\nHost : a\r\n\r\n"),
+                             (431, f"GET /{'x' * 2100} HTTP/1.1\r\n\r\n"), (404, f"GET {'/x' * 17} HTTP/1.1\r\n\r\n"),
+                             (431, "GET / HTTP/1.1\r\n" + "a:\r\n" * 101 + "\r\n"),
+                             (421, "GET / HTTP/1.1\r\n" + "a:\r\n" * 100 + "\r\n"),
                              (421, "GET / HTTP/1.1\r\n\r\n"), (400, "GET / SPDY/3\r\n\r\n"),
                              (400, "POST / HTTP/1.1\r\nHost: 127.0.0.1\r\nTransfer-Encoding: chunked\r\n\r\n"),
                              (400, "GET http://127.0.0.1/ HTTP/1.1\r\nHost: 127.0.0.1\r\n\r\n")]:
@@ -291,6 +294,32 @@ class Attacks(unittest.TestCase):
         self.assertEqual(self.finish.again().tap(self.line)[0], 200)
         for link in links:
             link.close()
+
+    def test_long_heads(self) -> None:
+        """300 strangers whose heads are as long as can be take little processor time, and a tap beside them hardly waits."""
+        end = f" HTTP/1.1\r\nHost: 127.0.0.1:{self.port}\r\n"
+        for head in (f"GET {'/%41' * 4000}{end}\r\n", f"GET /office/finish/me{end}Cookie: {';' * 15_000}\r\n\r\n"):
+            before, links = self.spent(), list[socket.socket]()
+            for _ in range(300):
+                link = socket.socket()
+                self.addCleanup(link.close)
+                link.bind(("127.0.0.2", 0))
+                link.connect(("127.0.0.1", self.port))
+                links.append(link)
+            for link in links:
+                link.sendall(head.encode())
+            began = time.monotonic()
+            self.assertEqual(self.finish.again().tap(self.line)[0], 200)
+            self.assertLess(time.monotonic() - began, 10, head[:30])
+            for link in links:
+                link.recv(100)
+            self.assertLess(self.spent() - before, 1.5, head[:30])
+
+    def spent(self) -> float:
+        """The processor seconds that the web has taken."""
+        with open(f"/proc/{self.web.web.pid}/stat", encoding="ascii", errors="replace") as file:
+            words = file.read().rpartition(")")[2].split()
+        return (int(words[11]) + int(words[12])) / os.sysconf("SC_CLK_TCK")
 
     def test_deaf(self) -> None:
         """Somebody who asks for news and doesn't take it holds up nobody, and costs little."""
@@ -354,6 +383,58 @@ class Turns(unittest.IsolatedAsyncioTestCase):
             self.assertTrue((await reader.read()).startswith(b"HTTP/1.1 200"))
             writer.close()
         self.assertEqual(seen, ["/greedy"] * 5 + ["/other"] * 4)
+
+    async def test_device(self) -> None:
+        """Strangers take no turns of a device that has their address, neither by what is answered nor by what isn't."""
+        door = ("127.0.0.1", helpers.free_port(self))
+
+        async def answer(request: Request) -> Reply:
+            return Reply()
+
+        host = Host(answer, lambda _: 0, self.fail, lambda request: request.fields.get("cookie", ""))
+        host.turns = Rate(3, 1e-6)
+        await host.start(*door, None)
+
+        async def asked(line: str, patience: float = helpers.PATIENCE) -> bytes:
+            """The status of the answer, if one comes."""
+            reader, writer = await asyncio.open_connection(*door)
+            self.addCleanup(writer.close)
+            writer.write(line.encode() + b"\r\nConnection: close\r\n\r\n")
+            with suppress(asyncio.TimeoutError):
+                return (await asyncio.wait_for(reader.read(), patience))[9:12]
+            return b""
+
+        self.assertEqual([await asked(line) for line in ("GET /", "GET /", "GET / HTTP/1.1")], [b"400", b"400", b"200"])
+        self.assertEqual([await asked("GET / HTTP/1.1", 0.3), await asked("GET /", 0.3)], [b"", b""])
+        self.assertEqual(await asked("GET / HTTP/1.1\r\nCookie: Ann"), b"200")
+
+
+class Heads(unittest.TestCase):
+    """What reading a head costs the thread of all connections: of each less than a millisecond."""
+
+    def test_time(self) -> None:
+        gate = Gate("")
+        office = WebOffice(gate, "/none", "http://127.0.0.1/", print)
+        routes = Routes(office)
+        for line, field in (("/office" + "/%41" * 15, ""), ("/" + "%41" * 650, ""), ("/" + " " * 2000, ""), ("/live?page=" + "/%41" * 500, ""),
+                            ("/office/finish/me", "Cookie: " + ";" * 15_000), ("/", "Accept-Encoding: " + "," * 15_000),
+                            ("/", "\r\n".join(f"f{at}: {'x' * 100}" for at in range(97)))):
+            head = f"GET {line} HTTP/1.1\r\nHost: 127.0.0.1\r\n{field}\r\n\r\n".encode()
+            self.assertLess(len(head), HEAD)
+            self.assertLess(min(self.spent(routes, head) for _ in range(30)), 0.001, (line[:20], field[:20]))
+
+    @staticmethod
+    def spent(routes: Routes, head: bytes) -> float:
+        """The processor seconds that one reading of a head takes, with all that is looked up by it."""
+        before = time.thread_time()
+        with suppress(Wrong):
+            request = request_of(head, "127.0.0.1")
+            routes.name_of(request)
+            routes.room_for(request)
+            with suppress(StopIteration):
+                routes.answer(request).send(None)
+            packed(request, Reply(data=b"x" * 2000))
+        return time.thread_time() - before
 
 
 class Shares(unittest.IsolatedAsyncioTestCase):

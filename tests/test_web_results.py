@@ -330,6 +330,26 @@ class Files(Results):
         said, status = helpers.run("verify", "saved.html", "--program", helpers.PROGRAM, cwd=self.here)
         self.assertEqual((status, ": verified." in said), (0, True), said)
 
+    def test_rules_that_wait(self) -> None:
+        """Results go by the rules in force, in every form: those that are saved come with the next opening of the office."""
+        for race in (1, 2):
+            self.sail(race)
+        nets = {row["sail"]: row["net"] for row in self.scorer.state()["standing"]["rows"]}
+        rules = self.scorer.ask("GET", "/office/scorer/rules/cup")[1]
+        saved = {"settings": {**rules["settings"], "exclude": "none", "absent": "a53"}, "tag": rules["tag"]}
+        self.assertEqual(self.scorer.ask("POST", "/office/scorer/save/cup", saved)[1]["waiting"], ["exclude", "absent"])
+        self.assertEqual(self.declared("final")[0], 200)
+        for form in ("page/cup", "text/cup", "csv/cup", "json"):
+            data = self.download(form)[0].decode()
+            self.assertEqual(("have changed since" in data, "RRS A5.3" in data), (False, False), form)
+        found = {row["sail"]: row["net"] for row in json.loads(self.download("json")[0])[0]["boats"]}
+        self.assertEqual(found, nets)
+        said, status = helpers.run("export", "cup", "--text", cwd=self.here)
+        self.assertEqual((status, "RRS A5.2" in said, "other rules than the open office" in said), (0, True, True), said)
+        # The office dies, and is opened again by the web, by the same rules.
+        self.kill_program()
+        self.assertEqual((self.shown()["is_changed"], "have changed since" in self.download("page/cup")[0].decode()), (False, False))
+
     def test_page(self) -> None:
         """The page to print is shown, not saved; it runs the results' own script alone, and is in no frame."""
         self.sail()

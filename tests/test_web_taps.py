@@ -26,7 +26,7 @@ from raceoffice.web.gate import Gate
 from raceoffice.web.room import held_alone, outcome_of
 from raceoffice.web.tap_session import TapSession
 from raceoffice.web.taps import Register, Sent, Tap, last_numbers, number_of
-from web_devices import SAILS, Device, Web, new_id
+from web_devices import BOATS, SAILS, Device, Web, list_of, new_id
 
 # The register of taps.
 TAPS = ("cup", "office", "web.taps")
@@ -389,7 +389,7 @@ class Elsewhere(Web):
         status, said = ann.tap("FINISH 1 NED12", at=now + 15_000, behind="GBR33")
         self.assertEqual((status, said["outcome"], said["clock"]), (409, "elsewhere", "BEFORE 1 NED12 GBR7"))
         self.assertEqual(said["question"]["values"],
-                         {"race": 1, "sail": "NED12", "others": ["GBR7"], "ahead": "GBR7"})
+                         {"race": 1, "sail": "NED12", "others": ["GBR7"], "ahead": "GBR7", "untimed": []})
         self.assertEqual(said["question"]["text"], "Meanwhile GBR 7 Sea Pink was recorded. By the clock "
                          "NED 12 Windhover is just ahead of GBR 7 Sea Pink.")
         ann.tap("FINISH 1 NED12", at=now + 15_000, behind="GBR33", by_clock=True)
@@ -398,6 +398,31 @@ class Elsewhere(Web):
         self.assertEqual(ann.tap("FINISH 1 FRA9", at=now + 20_500, behind=None)[1]["line"], "FINISH 1 FRA9")
         self.assertEqual(self.journal(), ["FINISH FINISH 1 GBR101", "FINISH FINISH 1 GBR33", "FINISH FINISH 1 GBR7",
                                           "FINISH BEFORE 1 NED12 GBR7", "FINISH FINISH 1 FRA9"])
+
+
+class Hyphens(Web):
+    """Boats whose sails have a hyphen."""
+
+    def prepare(self) -> None:
+        boats = [(sail.replace(" ", "-"), *names) for sail, *names in BOATS]
+        self.write(list_of(boats), "cup", "entries.csv")
+
+    def test_moments(self) -> None:
+        """Each has a moment: it is shown, says who finished first, and names who has tapped her, too."""
+        ann, ben, now = self.device("finish"), self.device("finish", "Ben"), int(time.time() * 1000)
+        ben.tap("FINISH 1 GBR-7", at=now + 20_000, behind="")
+        line = "FINISH 1 GBR-101"
+        more: dict[str, Any] = {"at": now, "behind": ""}
+        said = ann.tap(line, **more)[1]
+        self.assertEqual((said["clock"], said["question"]["values"]["untimed"]), ("BEFORE 1 GBR-101 GBR-7", []))
+        id = new_id()
+        self.assertEqual(ann.tap(line, id, **more, by_clock=True)[1]["outcome"], "taken")
+        race = ann.state()["races"]["1"]
+        self.assertEqual(race["at"], {"GBR-101": now, "GBR-7": now + 20_000})
+        self.assertEqual(race["by"], {"GBR-101": "Ann", "GBR-7": "Ben"})
+        ben.tap(line, at=now)
+        asked = ann.tap("STRIKE 1 GBR-101", undoes=id)[1]["question"]
+        self.assertEqual((asked["kind"], asked["values"]), ("tapped-too", {"sail": "GBR-101", "by": "Ben"}))
 
 
 class Crashes(Web):

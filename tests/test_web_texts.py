@@ -16,6 +16,7 @@ from raceoffice.series.settings import STATES
 from raceoffice.session.dialogue import Value
 from raceoffice.session.question_words import WORDS
 from raceoffice.session.said_words import WORDS as SAID, SaidWords
+from script_names import Script
 
 STATIC = os.path.join(helpers.TOP, "raceoffice", "web", "static")
 LANGUAGES = ["de", "en", "es", "fr", "it", "nl"]
@@ -43,7 +44,8 @@ MADE = {
 # The questions with words of their own for some values, and what comes before any question about a race that counts.
 VARIANTS = ["ask.announce.amended", "ask.announce.provisional", "ask.counts", "ask.take-over.since",
             "ask.score-penalised.a53", "ask.redress-unplaced.a53", "ask.abandon.places",
-            "ask.others-recorded.ahead", "ask.others-recorded.changed", "ask.others-recorded.changed.ahead"]
+            "ask.others-recorded.ahead", "ask.others-recorded.changed", "ask.others-recorded.changed.ahead",
+            "ask.others-recorded.untimed", "ask.others-recorded.ahead.untimed"]
 
 
 # What is said in words that the pages have for something else
@@ -322,6 +324,28 @@ class Scripts(unittest.TestCase):
                     first, second = file.read().splitlines()[:2]
                 self.assertEqual((first, second[:3]), ("'use strict';", "// "), name)
 
+    def test_names(self) -> None:
+        """Each name that a script uses is declared there, or imported, or known to browsers; and each import is needed."""
+        for name in sorted(os.listdir(STATIC)):
+            if name.endswith(".js"):
+                with open(os.path.join(STATIC, name), encoding="utf-8") as file:
+                    script = Script(file.read())
+                self.assertEqual(script.unknown(), [], name)
+                for imported in script.imported:
+                    script.scopes[0].names.remove(imported)
+                    self.assertNotEqual(script.unknown(), [], f"{name} imports {imported}")
+                    script.scopes[0].names.add(imported)
+
+    def test_unknown_names(self) -> None:
+        """A name is known where it is declared, and not elsewhere: in a function, a text in backquotes or a pattern."""
+        declared = ("const a = {b: 1, c};\nconst c = /[d/`]/g;\nfunction e({f: g = c, h}, ...i) { return `${g}${h.f} {j} ${i}`; }\n"
+                    "class K { l(m) { for (const n of e(m)) n.o(a / c / n); } }\nconst p = q => ({q, r: new K()});\n"
+                    "p(async (s) => { try { await s; } catch (t) { p(t ? a : c); } }); // u")
+        self.assertEqual(Script(declared).unknown(), [])
+        for used, wanted in (("v", "v"), ("`${w}`", "w"), ("a.x(y)", "y"), ("{z}", "z"), ("q", "q"), ("n + 1", "n"), ("{f: f}", "f"),
+                             ("p(q => 1, q)", "q"), ("a ? m : c", "m"), ("(b = s) => b", "s")):
+            self.assertEqual(Script(f"{declared}\np({used});").unknown(), [f"line 7: {wanted}"], used)
+
     def test_codes(self) -> None:
         """The pages have the codes of the package, each with who gives it and whether she broke a rule."""
         with open(os.path.join(STATIC, "sails.js"), encoding="utf-8") as file:
@@ -348,7 +372,8 @@ class Scripts(unittest.TestCase):
                                     scripts()), [])
 
     def test_kept_files(self) -> None:
-        """The finish page's worker keeps all that its page loads, and what a class by corrected time needs besides."""
+        """The finish page's worker keeps all that its page loads, and what a question of the office or a class by corrected
+        time needs besides."""
         with open(os.path.join(STATIC, "worker.js"), encoding="utf-8") as file:
             kept = set(re.findall(r'"([\w-]+\.(?:css|js|webmanifest))"', file.read()))
         needed, waiting = {"finish.js", "finish.css", "base.css", "finish.webmanifest"}, ["finish.js"]
@@ -357,7 +382,7 @@ class Scripts(unittest.TestCase):
                 found = set(re.findall(r'from "\./([\w.-]+)"', file.read())) - needed
             needed |= found
             waiting += found
-        self.assertEqual(kept, needed | {"finish-start.js"})
+        self.assertEqual(kept, needed | {"finish-answers.js", "finish-start.js"})
         with open(os.path.join(STATIC, "finish.html"), encoding="utf-8") as file:
             loaded = set(re.findall(r'/office/static/([\w.-]+)"', file.read()))
         self.assertEqual(loaded, needed)

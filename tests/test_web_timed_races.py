@@ -2,6 +2,7 @@
 from __future__ import annotations
 
 import datetime
+import os
 import unittest
 from typing import Any
 
@@ -39,8 +40,8 @@ class Races(Prepared):
         self.yes(scorer, "ABANDON 1")
         race = scorer.state()["races"]["1"]
         self.assertEqual((race["order"], race["codes"]), ([], {"GBR7": "BFD", "NED12": "RET"}))
-        self.assertEqual((self.sheet(), self.sheet("race-1-abandoned")),
-                         (["Sail,Start,Finish,Code", "GBR101,,,", "GBR7,,,BFD", "NED12,,,RET", "FRA9,,,"], before))
+        self.assertEqual((self.sheet(), self.abandoned()),
+                         (["Sail,Start,Finish,Code", "GBR101,,,", "GBR7,,,BFD", "NED12,,,RET", "FRA9,,,"], [before]))
         journal = self.journal()
         self.assertEqual(ann.tap("FINISH 1 FRA9", at=moment("15:02:00"))[1]["outcome"], "noted")
         self.assertEqual(self.journal(), journal)
@@ -48,6 +49,28 @@ class Races(Prepared):
         ann.tap("START 1 16:00")
         self.assertEqual(ann.tap("FINISH 1 GBR101", at=moment("17:00:00"))[1]["outcome"], "taken")
         self.assertEqual(self.journal()[len(journal):], ["FINISH TIME 1 GBR101 3600"])
+
+    def abandoned(self) -> list[list[str]]:
+        """The sheets that are kept of a race that was abandoned, the oldest first."""
+        names = sorted(name for name in os.listdir(os.path.join(self.here, "cup", "times")) if "abandoned" in name)
+        for name in names:
+            self.assertRegex(name, r"race-1-abandoned-\d{4}-\d\d-\d\d-\d{6}Z(-\d+)?\.csv")
+        return [self.sheet(name.removesuffix(".csv")) for name in sorted(names, key=lambda name: os.stat(
+            os.path.join(self.here, "cup", "times", name)).st_mtime_ns)]
+
+    def test_abandoned_twice(self) -> None:
+        """A race that is abandoned, sailed again and abandoned again: the sheets of both are kept, each once. A sheet that
+        was kept, but not cleared, as before a crash, isn't kept again."""
+        ann, scorer, kept = self.device("finish"), self.device("scorer"), []
+        for start, finish in (("14:00", "15:00:00"), ("16:00", "17:00:00")):
+            ann.tap(f"START 1 {start}")
+            ann.tap("FINISH 1 GBR101", at=moment(finish))
+            kept.append(self.sheet())
+            self.yes(scorer, "ABANDON 1")
+        self.assertEqual(self.abandoned(), kept)
+        self.write("\n".join(kept[0]) + "\n", "cup", "times", "race-1.csv")
+        self.yes(scorer, "ABANDON 1")
+        self.assertEqual((self.abandoned(), self.sheet()[1:2]), (kept, ["GBR101,,,"]))
 
     def test_abandoned_early(self) -> None:
         """A race of which the sheet alone has something: the start and a finish go after a question."""
@@ -79,6 +102,39 @@ class Races(Prepared):
         self.write("Sail,Start,Finish,Code\nGBR101,14:00,15:00:00,\n", "cup", "times", "race-1.csv")
         status, said = ann.tap("START 1 14:05", at=moment("14:06:00"))
         self.assertEqual((status, said["question"]["values"]["start"]), (409, "14:00:00"))
+
+    def test_second_start(self) -> None:
+        """A start that another device has tapped three seconds after the first, and that comes when boats have finished, is
+        asked about: 3,600 s x 1.000, or 3,597 s. A No leaves all as it is, and a Yes is one, also after a restart."""
+        ann, bob = self.device("finish"), self.device("finish", "Bob")
+        self.assertEqual(ann.tap("START 1", at=moment("14:00:00"), was="")[1]["outcome"], "noted")
+        ann.tap("FINISH 1 GBR101", at=moment("15:00:00"))
+        before, id = (self.sheet(), self.journal()), "2" * 32
+        for _ in range(2):
+            status, said = bob.tap("START 1", id, at=moment("14:00:03"), was="")
+            self.assertEqual((status, said["question"]["kind"], said["question"]["values"]),
+                             (409, "start-since", {"race": 1, "start": "14:00:00", "written": "14:00:03"}))
+            self.assertEqual((self.sheet(), self.journal()), before)
+            self.close()
+            self.serve()
+            ann, bob = ann.again(), bob.again()
+        for _ in range(2):
+            self.assertEqual(bob.tap("START 1", id, at=moment("14:00:03"), was="", agreed=[said["question"]])[0], 200)
+            self.assertEqual((self.sheet()[1], self.journal()[1:]),
+                             ("GBR101,14:00:03,15:00:00,", ["FINISH STRIKE 1 GBR101", "FINISH TIME 1 GBR101 3597"]))
+            self.assertEqual(ann.state()["races"]["1"]["sheet"]["start"], "14:00:03")
+
+    def test_start_shown(self) -> None:
+        """Whoever gives another start than the device showed isn't asked, whoever gave that; nor is a device that has given
+        the last one itself and hasn't seen it yet; nor whoever gives the same. One that showed an older start is asked."""
+        ann, bob, scorer = self.device("finish"), self.device("finish", "Bob"), self.device("scorer", "Bea")
+        self.write("Sail,Start,Finish,Code\nGBR101,9:05,,\n", "cup", "times", "race-1.csv")
+        for device, start, was, status in (
+                (ann, "14:00", "9:05", 200), (ann, "14:01", "…", 200), (bob, "14:02", "9:05", 409), (bob, "14:01:00", "", 200),
+                (bob, "14:02", "14:01:00", 200), (ann, "14:03", "14:01:00", 409), (scorer, "14:03", "14:02:00", 200),
+                (bob, "14:05", "14:03:00", 200)):
+            self.assertEqual(device.tap(f"START 1 {start}", at=moment("14:00:00"), was=was)[0], status, (start, was))
+        self.assertEqual(self.sheet()[1], "GBR101,14:05:00,,")
 
 
 @helpers.needs_times
@@ -128,6 +184,10 @@ class Clocks(Prepared):
         self.assertIn("Europe/Lisbon", self.text("cup", "series.ini"))
         ann.tap("FINISH 1 GBR101", at=utc("2026-10-24T20:00:00"))
         Races.yes(scorer, "SCORE 1")
+        # Nor while boats with several starts are racing, of which none has finished.
+        self.write("Sail,Start,Finish,Code\nGBR101,19:00,,\nGBR7,19:05,,\n", "cup", "times", "race-2.csv")
+        self.assertEqual(scorer.ask("POST", "/office/scorer/save/cup", given)[0], 422)
+        self.write("Sail,Start,Finish,Code\nGBR101,,,\n", "cup", "times", "race-2.csv")
         self.assertEqual(scorer.ask("POST", "/office/scorer/save/cup", given)[0], 200)
 
 

@@ -39,6 +39,24 @@ class Undone(Prepared):
             self.assertEqual((self.rows(), self.journal()[-1]), (before, time))
             scorer.tap("STRIKE 1 GBR7")
 
+    def test_strike_that_waited(self) -> None:
+        """A strike that waited on a phone, while another device struck the boat and gave her another finish, is asked about:
+        3,720 s x 0.900. One of a boat that the phone itself struck before isn't."""
+        ann, bea, id = self.device("finish"), self.device("scorer", "Bea"), new_id()
+        ann.tap("START 1 14:00")
+        ann.tap("FINISH 1 GBR7", at=moment("15:01:00"))
+        seen = ann.state()["entries"]
+        bea.tap("STRIKE 1 GBR7")
+        bea.tap("FINISH 1 GBR7", at=moment("15:02:00"))
+        status, said = ann.tap("STRIKE 1 GBR7", id, at=moment("15:01:10"), seen=seen)
+        self.assertEqual((status, said["question"]["kind"], self.journal()[-1]), (409, "sent-already", "SCORER TIME 1 GBR7 3348"))
+        for again in (False, True):
+            done = ann.tap("STRIKE 1 GBR7", id, at=moment("15:01:10"), seen=seen, agreed=[said["question"]])[1]
+            self.assertEqual((done["outcome"], done["again"]), ("taken", again))
+        seen = ann.state()["entries"]
+        for line in ("FINISH 1 GBR7", "STRIKE 1 GBR7") * 2:
+            self.assertEqual(ann.tap(line, at=moment("15:03:00"), seen=seen)[0], 200, line)
+
     def test_noted(self) -> None:
         """The same before there is a start, when no line is sent; and a finish that somebody has put into the sheet by
         hand."""

@@ -2,6 +2,7 @@
 from __future__ import annotations
 
 import contextlib
+import datetime
 import http.client
 import json
 import os
@@ -24,6 +25,12 @@ SAILS = [boat[0].replace(" ", "") for boat in BOATS]
 FOLKBOATS = [["GBR 33", "Fulmar", "I. Voss"], ["NED 80", "Sterna", "K. Prins"], ["SWE 2", "Vind", "A. Berg"],
              ["GER 19", "Luv", "T. Ott"]]
 LINK = re.compile(r"https?://\S+?(/office/in#(finish|jury|scorer)\.[\w-]+)")
+
+
+def zone_of_afternoon() -> str:
+    """A time zone in which it is between two and three o'clock in the afternoon."""
+    east = 14 - datetime.datetime.now(datetime.timezone.utc).hour
+    return f"Etc/GMT{-east:+d}" if east else "Etc/GMT"
 
 
 def entries_of(boats: list[list[str]]) -> str:

@@ -20,7 +20,7 @@ from raceoffice.program.journal import Race, Series
 from raceoffice.program.replay import Line, not_run, program_said
 from raceoffice.remarks import ENGLISH, Remark, remark
 from raceoffice.series import entry_list
-from raceoffice.series.entry_list import plain
+from raceoffice.series.entry_list import SAIL, plain
 from raceoffice.series.folder import Folder
 from raceoffice.series.headings import rating_columns
 from raceoffice.series.race_sheets import SHEETS, sheet_name
@@ -39,7 +39,7 @@ ROUNDINGS = {"half-up": "to the nearest second, halves up", "half-down": "to the
 PATIENCE = 60.0
 FAULT = re.compile(r"times: (ratings|sheet) fault (\d+) row (\d+): (.*)")
 NUMBER = "[0-9]{1,12}"
-SUM = re.compile(f"([A-Z0-9-]{{1,12}}) ({NUMBER}(?: [-+*/] {NUMBER})*) -> ([0-9]{{1,6}})")
+SUM = re.compile(f"({SAIL.pattern}) ({NUMBER}(?: [-+*/] {NUMBER})*) -> ([0-9]{{1,6}})")
 # The note of a boat that the office doesn't know.
 STRANGER = "not entered: her row is left out"
 
@@ -147,7 +147,7 @@ def program_fault(fault: str, sheet: str, ratings: str, rows: dict[str, Sequence
 
 def fault_numbered(number: str, said: str) -> str:
     """What the program says of a row, as a remark if it is one of its faults: the first word in capitals is a sail."""
-    sail = next((word for word in said.split() if re.fullmatch("[A-Z0-9-]+", word)), "")
+    sail = next((word for word in said.split() if SAIL.fullmatch(word)), "")
     known = remark(f"timing-{number}", sail=sail) if f"timing-{number}" in ENGLISH else None
     return known if known == said else said
 

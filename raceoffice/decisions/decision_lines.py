@@ -20,8 +20,8 @@ from raceoffice.series.settings import rows_of
 from raceoffice.wording import joined
 
 NAME = "decisions.txt"
-# The most lines: as many are verified.
-MOST = 1000
+# The most lines: as many are verified. The most races that one names, and the letters of a word that may be like a kind.
+MOST, RACES_NAMED, LETTERS = 1000, 40, 40
 PENALTIES = ("DPI", "PRP", "T1", "SCP")
 AVERAGES = ("AVG", "DUTY")
 KINDS = (*PENALTIES, "TLE", "NSC", *AVERAGES, "REINSTATE")
@@ -41,7 +41,7 @@ MEANING = {
 POINTS = r"\d{1,3}(\.\d)?"
 # What a kind takes after it, what that is called, and what it is if nothing is given.
 PERCENT = (rf"\d{{1,3}}%|{POINTS}", remark("takes-penalty"))
-RACES = (r"sailed|all|before|\d{1,2}(,\d{1,2})*", remark("takes-races"))
+RACES = (rf"sailed|all|before|\d{{1,2}}(,\d{{1,2}}){{0,{RACES_NAMED - 1}}}", remark("takes-races"))
 NOTHING = ("", remark("takes-nothing"))
 TAKES = {
     "DPI": PERCENT, "SCP": PERCENT, "PRP": PERCENT, "T1": PERCENT,
@@ -114,7 +114,7 @@ def ruling_of(text: str, line: int) -> Ruling:
         raise NoRuling(remark("no-race", written=words[1]))
     if at is None:
         odd = next((word for word in words[3:] if word.isalpha()), words[3])
-        near = difflib.get_close_matches(odd.upper(), KINDS, 1)
+        near = difflib.get_close_matches(odd[:LETTERS].upper(), KINDS, 1)
         raise NoRuling(remark("decision-like", written=odd, kinds=KINDS, near=near[0]) if near else
                        remark("decision-kind", written=odd, kinds=KINDS))
     sail, kind = plain("".join(words[2:at])), words[at].upper()
@@ -138,15 +138,16 @@ def wrong_how(ruling: Ruling) -> Remark | None:
     if ruling.kind in (*PENALTIES, "TLE") and ruling.after_last is None:
         least = 10 if ruling.kind == "TLE" else 1
         return None if ruling.tenths >= least else remark("decision-few", how=how)
-    if ruling.race in ruling.chosen:
+    chosen = ruling.chosen
+    if ruling.race in chosen:
         return remark("decision-itself", race=ruling.race)
-    odd = [race for race in ruling.chosen if not 1 <= race <= 40 or ruling.chosen.count(race) > 1]
+    odd = [race for race in chosen if not 1 <= race <= 40 or chosen.count(race) > 1]
     return remark("decision-races", how=how) if odd else None
 
 
 def rulings_of(text: str) -> tuple[list[Ruling], list[Remark]]:
     """The decisions of a file, and what is wrong with its other lines."""
-    found: list[Ruling] = []
+    found: dict[tuple[int, str], Ruling] = {}
     wrong: list[Remark] = []
     for at, line in enumerate(rows_of(text), 1):
         line = line.partition("#")[0].strip()
@@ -157,12 +158,10 @@ def rulings_of(text: str) -> tuple[list[Ruling], list[Remark]]:
         except NoRuling as cause:
             wrong.append(remark("decision-line", line=at, why=cause.why))
             continue
-        same = [other.line for other in found if other.key == ruling.key]
-        if same:
-            wrong.append(remark("decision-twice", line=at, other=same[0], sail=ruling.sail, race=ruling.race))
-        else:
-            found.append(ruling)
-    return found, wrong
+        same = found.setdefault(ruling.key, ruling)
+        if same is not ruling:
+            wrong.append(remark("decision-twice", line=at, other=same.line, sail=ruling.sail, race=ruling.race))
+    return list(found.values()), wrong
 
 
 def read(folder: str) -> str:

@@ -201,12 +201,21 @@ class Figures:
         self.cells = cells_of(Standing.read(list(self.sheet.table)))
         self.held = holdings(self.sheet.journal)
         self.rulings = rulings
+        self.of_boats, self.counting = self.rulings_of_boats(), sorted({race for race, _ in self.cells})
         self.points: dict[Ruling, str] = {}
         self.why: dict[Ruling, Remark] = {}
-        self.dnf = self.asked({ruling.race: self.dnf_lines(self.series.race(ruling.race))
-                               for ruling in rulings if ruling.kind in (*PENALTIES, "TLE")})
-        self.last = self.asked({ruling.race: self.last_lines(self.series.race(ruling.race))
-                                for ruling in rulings if ruling.after_last is not None})
+        # Each race is looked at once, however many its decisions are.
+        penalised = {ruling.race for ruling in rulings if ruling.kind in (*PENALTIES, "TLE")}
+        limited = {ruling.race for ruling in rulings if ruling.after_last is not None}
+        self.dnf = self.asked({race: self.dnf_lines(self.series.race(race)) for race in sorted(penalised)})
+        self.last = self.asked({race: self.last_lines(self.series.race(race)) for race in sorted(limited)})
+
+    def rulings_of_boats(self) -> dict[str, dict[int, Ruling]]:
+        """The decisions about each boat, by their races."""
+        found: dict[str, dict[int, Ruling]] = {}
+        for ruling in self.rulings:
+            found.setdefault(ruling.sail, {})[ruling.race] = ruling
+        return found
 
     def asked(self, wanted: dict[int, tuple[str, list[Line]]]) -> dict[int, int]:
         """The tenths of a boat in each race after some lines; the program is asked if there are any."""
@@ -290,7 +299,7 @@ class Figures:
         """The average of a boat's points in some races, to the nearest tenth of a point, 0.05 upward
         (RRS A9(a), A9(b)). It counts no race in which she has an average herself."""
         averaged = self.averaged(ruling.sail)
-        counted = [race for race, sail in self.cells if sail == ruling.sail]
+        counted = [race for race in self.counting if (race, ruling.sail) in self.cells]
         races = ruling.chosen or [race for race in counted if race not in averaged
                                   and self.is_counted(ruling, race)]
         missing = [str(race) for race in races if race not in counted]
@@ -304,8 +313,7 @@ class Figures:
 
     def averaged(self, sail: str) -> set[int]:
         """The races in which a boat has an average as redress."""
-        found = {ruling.race for ruling in self.rulings
-                 if ruling.sail == sail and ruling.kind in AVERAGES}
+        found = {race for race, ruling in self.of_boats.get(sail, {}).items() if ruling.kind in AVERAGES}
         return found | {number for number, race in self.series.races.items()
                         if race.redress.get(sail) in ("ALL", "PRIOR")}
 
@@ -317,7 +325,8 @@ class Figures:
 
     def tenths(self, race: int, sail: str) -> int:
         """A boat's points in a race, by another decision if there is one."""
-        other = next((points for ruling, points in self.points.items() if ruling.key == (race, sail)), "")
+        ruling = self.of_boats.get(sail, {}).get(race)
+        other = self.points.get(ruling, "") if ruling else ""
         return Score(other, "", False).tenths if other else self.cells[race, sail].tenths
 
 

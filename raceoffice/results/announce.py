@@ -17,7 +17,7 @@ from raceoffice.series import entry_list, settings
 from raceoffice.series.folder import Folder
 from raceoffice.series.kept_places import kept_now
 from raceoffice.series.last_change import mark_of
-from raceoffice.series.run_program import replayed
+from raceoffice.series.run_program import options_in_force, replayed
 from raceoffice.series.unknown_finishers import marks_by_race
 from raceoffice.session.dialogue import Question, Value
 from raceoffice.session.question_words import question
@@ -43,7 +43,7 @@ def sheet_now(folder: Folder) -> Sheet:
         link = folder.link()
         with contextlib.closing(link):
             return link.sheet()
-    return replayed(folder, folder.settings.options())
+    return replayed(folder, options_in_force(folder))
 
 
 # What is open

@@ -1,8 +1,6 @@
 """The decisions of a series beside its scores, worked out again once its journal, its rules or decisions.txt are others."""
 from __future__ import annotations
 
-import dataclasses
-import os
 import threading
 
 from raceoffice.decisions import decision_lines
@@ -11,7 +9,7 @@ from raceoffice.errors import Trouble
 from raceoffice.program.link import Sheet
 from raceoffice.remarks import remark
 from raceoffice.series.folder import Folder
-from raceoffice.series.run_program import opened_rules
+from raceoffice.series.run_program import options_in_force
 
 FILE = decision_lines.NAME
 
@@ -32,14 +30,8 @@ class DecisionsNow:
         if not text.strip():
             return Decided()
         with self.lock:
-            options = self.options()
+            options = options_in_force(self.folder)
             key = (sheet.journal, options, text)
             if self.held is None or self.held[0] != key:
                 self.held = (key, decided(self.folder.program, options, sheet.journal, text))
             return self.held[1]
-
-    def options(self) -> list[str]:
-        """The rules of the open office, if one is open, or else those of the settings."""
-        is_open = os.path.lexists(self.folder.socket) and not self.folder.is_closing()
-        rules = opened_rules(self.folder) if is_open else {}
-        return dataclasses.replace(self.folder.settings, **rules).options()

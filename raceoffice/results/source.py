@@ -18,7 +18,7 @@ from raceoffice.results.snapshot import CHANGED, Snapshot, labelled
 from raceoffice.series import entry_list, settings
 from raceoffice.series.folder import Folder
 from raceoffice.series.last_change import is_changed_since, time_of_entry, time_of_notice, time_of_rules
-from raceoffice.series.run_program import opened_rules, replayed
+from raceoffice.series.run_program import opened_rules, options_in_force, replayed, rules_in_force
 from raceoffice.series.settings import Settings
 from raceoffice.series.windows import BOARD, Presence
 from raceoffice.terminal import sentence
@@ -128,14 +128,15 @@ class ResultsSource:
             raise
 
     def from_journal(self) -> Sheet:
-        """The sheet of the folder's files, which is replayed when one of them has changed."""
+        """The sheet of the folder's files by the rules in force, which is replayed when one of them has changed."""
         self.leave()
-        self.rules = {}
+        self.rules = rules_in_force(self.folder)
+        options = dataclasses.replace(self.settings, **self.rules).options()
         files = [self.folder.program, self.folder.journal, self.folder.entries]
         found = [os.stat(path) for path in files if os.path.exists(path)]
-        key = (self.settings.options(), [(file.st_mtime_ns, file.st_size) for file in found])
+        key = (options, [(file.st_mtime_ns, file.st_size) for file in found])
         if self.replayed is None or self.replayed[0] != key:
-            self.replayed = (key, replayed(self.folder, self.settings.options()))
+            self.replayed = (key, replayed(self.folder, options))
             self.note("torn", self.folder.torn_end())
         return self.replayed[1]
 
@@ -158,7 +159,8 @@ class ResultsSource:
     def show_saved(self) -> None:
         """Shows what journal.txt has, if an office has gone before the board came."""
         with contextlib.suppress(Trouble):
-            self.show(replayed(self.folder, self.settings.options()))
+            self.rules = rules_in_force(self.folder)
+            self.show(replayed(self.folder, options_in_force(self.folder)))
 
     def show(self, sheet: Sheet) -> None:
         """Makes a new view if anything that it shows has changed."""

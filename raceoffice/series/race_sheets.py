@@ -3,11 +3,15 @@ them."""
 from __future__ import annotations
 
 import contextlib
+import glob
+import itertools
 import os
+import time
 from collections.abc import Collection, Mapping, Sequence
 
 from raceoffice.errors import NotNow, Trouble
 from raceoffice.files import replace_whole
+from raceoffice.series.copies import STAMP
 from raceoffice.series.entry_list import plain
 from raceoffice.series.folder import Folder
 from raceoffice.series.headings import SHEET, columns
@@ -119,7 +123,25 @@ def clear_sheet(folder: Folder, race: int, cleared: bytes) -> None:
     """Takes an abandoned race out of its sheet. The sheet as it was is kept beside it."""
     path = folder.file(sheet_name(race))
     try:
-        replace_whole(f"{path.removesuffix('.csv')}-abandoned.csv", bytes_of(path))
+        keep_abandoned(path.removesuffix(".csv"), bytes_of(path))
         replace_whole(path, cleared)
     except Trouble as trouble:
         raise NotNow(*trouble.said) from None
+
+
+def keep_abandoned(start: str, data: bytes) -> None:
+    """Keeps the sheet of an abandoned race under a name of its own, by the time in UTC: a race may be abandoned more than
+    once. What is kept already, as before a crash, isn't kept again."""
+    kept = glob.glob(f"{glob.escape(start)}-abandoned*.csv")
+    if any(has(path, data) for path in kept):
+        return
+    name = f"{start}-abandoned-{time.strftime(f'{STAMP}Z', time.gmtime())}"
+    names = itertools.chain([f"{name}.csv"], (f"{name}-{number}.csv" for number in itertools.count(2)))
+    replace_whole(next(path for path in names if path not in kept), data)
+
+
+def has(path: str, data: bytes) -> bool:
+    """Whether a file has just this."""
+    with contextlib.suppress(Trouble):
+        return bytes_of(path) == data
+    return False

@@ -1,6 +1,7 @@
 """The program of a series, run to its end: whether it can be run, and what it makes of a journal."""
 from __future__ import annotations
 
+import dataclasses
 import errno
 import os
 import subprocess
@@ -119,3 +120,14 @@ def opened_rules(folder: Folder) -> dict[str, object]:
     """The rules that the open office has: series.ini may have been changed since."""
     opened = folder.opened_with()
     return rules_of(opened) if opened else {}
+
+
+def rules_in_force(folder: Folder) -> dict[str, object]:
+    """The rules of the open office; none if no office is open, when those of series.ini are in force."""
+    is_open = os.path.lexists(folder.socket) and not folder.is_closing()
+    return opened_rules(folder) if is_open else {}
+
+
+def options_in_force(folder: Folder) -> list[str]:
+    """The rules in force, as options of the program."""
+    return dataclasses.replace(folder.settings, **rules_in_force(folder)).options()

@@ -8,10 +8,11 @@ from dataclasses import dataclass
 from raceoffice.errors import NotSent
 from raceoffice.program.journal import Race
 from raceoffice.remarks import remark
+from raceoffice.series.entry_list import SAIL
 from raceoffice.wording import ordinal
 
 # How one is called until she is known: ?1, or what was typed of her sail as 101?, and 101?2 for another.
-MARK = re.compile(r"([A-Z0-9-]{0,12})\?([1-9][0-9]{0,3})?")
+MARK = re.compile(rf"((?:{SAIL.pattern})?)\?([1-9][0-9]{{0,3}})?")
 
 
 @dataclass(frozen=True)

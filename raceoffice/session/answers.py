@@ -3,9 +3,11 @@ from __future__ import annotations
 
 from typing import Union
 
+from raceoffice.corrected.unsent import in_sheet
 from raceoffice.program.journal import Plan, Race
 from raceoffice.program.messages import ROLES, move_values, rank_of
 from raceoffice.program.standing import Standing, changes
+from raceoffice.series.race_sheets import sheet_name
 from raceoffice.series.unknown_finishers import Waiting
 from raceoffice.session.dialogue import ANSWER, NOTE, REFUSAL, SHOWN, Said
 from raceoffice.session.facts import Facts
@@ -76,11 +78,12 @@ def changes_said(facts: Facts, before: Standing, race: Race | None, mixed: bool)
 
 
 def race_said(facts: Facts, race: Race, unread: dict[str, int], is_to_count: bool, prefix: str) -> list[Said]:
-    """A race as it is recorded: the order, who holds what, and who is missing. `unread` are the places
-    of finishers whose sails weren't read."""
+    """A race as it is recorded: the order, who holds what, whose time is in the sheet alone, and who is missing. `unread`
+    are the places of finishers whose sails weren't read."""
     def shown(what: str, **values: str | int | list[str]) -> Said:
         return said(what, SHOWN, facts.called, prefix, **values)
-    missing = race.missing(facts.boats)
+    away, sheet = race.missing(facts.boats), in_sheet(facts.folder, race.number)
+    missing = away if race.counts else [sail for sail in away if sail not in sheet]
     found = [shown("race-state", race=race.number, counts=race.counts, next=is_to_count, finished=len(race.places()),
                    coded=len(race.codes), missing=len(missing), boats=len(facts.boats))]
     found += [Said(f"  {str(place) + '=' * tied:>4}  {facts.called(sail)}{time_in(race, sail)}"
@@ -91,7 +94,9 @@ def race_said(facts: Facts, race: Race, unread: dict[str, int], is_to_count: boo
     if missing:
         found.append(shown("race-missing", counts=race.counts,
                            boats=[facts.called(sail) + beside_code(race, sail, " ") for sail in missing]))
-    return found
+    if waiting := [sail for sail in away if sail in sheet]:
+        found.append(shown("sheet-waits", fault=facts.all_called(waiting)))
+    return found + [shown("row-left-out", sail=sail, name=sheet_name(race.number)) for sail in sheet if sail not in facts.boats]
 
 
 def time_in(race: Race, sail: str) -> str:

@@ -3,6 +3,7 @@ from __future__ import annotations
 
 from collections.abc import Sequence
 
+from raceoffice.corrected.unsent import unsent
 from raceoffice.program.journal import Race
 from raceoffice.series import entry_list
 from raceoffice.series.unknown_finishers import Unread
@@ -50,7 +51,7 @@ def before_score(facts: Facts, race: Race, unread: Sequence[Unread]) -> list[Que
     """What is odd in a race that is to count."""
     missing = race.missing(facts.boats)
     penalised = [sail for sail in missing if race.penalties.get(sail)]
-    asked = []
+    asked = before_sheet(facts, race)
     if unread:
         asked.append(question("score-unknown", facts.called, race=race.number,
                               marks=[one.mark for one in unread], since=[one.since for one in unread]))
@@ -62,6 +63,14 @@ def before_score(facts: Facts, race: Race, unread: Sequence[Unread]) -> list[Que
     if missing and race.order:
         asked.append(question("score-missing", facts.called, race=race.number, sails=missing))
     return asked
+
+
+def before_sheet(facts: Facts, race: Race) -> list[Question]:
+    """What is asked if the sheet of times of a race that is to count has something else than the journal."""
+    found = unsent(facts.folder, race.number, facts.sheet.journal)
+    if found.fault:
+        return [question("score-sheet-fault", facts.called, race=race.number, fault=found.fault)]
+    return [question("score-sheet", facts.called, race=race.number, sails=found.sails)] if found.sails else []
 
 
 def before_clear(facts: Facts, race: Race, sail: str) -> list[Question]:

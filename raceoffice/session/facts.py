@@ -18,7 +18,7 @@ class Facts:
     """The races and the standing of a class, and how its boats are called."""
 
     def __init__(self, folder: Folder) -> None:
-        self.settings = folder.settings
+        self.folder, self.settings = folder, folder.settings
         self.names = entry_list.read_if_there(folder.entries)
         self.read(Sheet((), ("TABLE 0 RACES",)))
 

@@ -91,6 +91,17 @@ def of_missing(words: Words) -> str:
     return f"Score race {words.text('race')} with {count(len(words.all('sails')), 'boat')} as DNC?"
 
 
+def of_sheet(words: Words) -> str:
+    """A race that is to count has another time, or another code, in its sheet than in the journal."""
+    return (f"What the sheet of times of race {words.text('race')} has of {joined(words.boats('sails'))} isn't in the "
+            "journal. Score the race without it?")
+
+
+def of_sheet_fault(words: Words) -> str:
+    return (f"Whether the journal has the times of the sheet of race {words.text('race')} isn't known: "
+            f"{words.text('fault')} Score it all the same?")
+
+
 def of_unscore(words: Words) -> str:
     return f"Race {words.text('race')} counts. Take it out of the results?"
 
@@ -169,9 +180,12 @@ def of_others(words: Words) -> str:
     others, sail = words.boats("others"), words.boat()
     were = f"Meanwhile {joined(others)} {'was' if len(others) == 1 else 'were'} recorded." if others \
         else "The order has been changed meanwhile."
-    if ahead := words.text("ahead"):
-        return f"{were} By the clock {sail} is just ahead of {words.called(ahead)}."
-    return f"{were} By the clock {sail} is after them, too."
+    untimed, ahead = words.boats("untimed"), words.text("ahead")
+    by_clock = f"just ahead of {words.called(ahead)}" if ahead else "after them, too"
+    if not untimed:
+        return f"{were} By the clock {sail} is {by_clock}."
+    told = f" By the clock {sail} is ahead of {words.called(ahead)}." if ahead else ""
+    return f"{were}{told} No tap shows when {joined(untimed)} finished."
 
 
 def of_copy(words: Words) -> str:
@@ -209,7 +223,7 @@ WORDS: dict[str, Callable[[Words], str]] = {
     "line-of-several": of_line, "race-or-boat": of_number, "boat-of-several": of_digits,
     "enter-listed": of_listed, "enter-near": of_near, "enter-unlisted": of_unlisted,
     "score-unknown": of_unknown, "score-only-codes": of_codes, "score-penalised": of_penalties,
-    "score-missing": of_missing, "unscore": of_unscore, "correction": of_correction,
+    "score-missing": of_missing, "score-sheet": of_sheet, "score-sheet-fault": of_sheet_fault, "unscore": of_unscore, "correction": of_correction,
     "clear-several": of_clear, "redress-unplaced": of_redress, "abandon": of_abandoning,
     "clear-sheet": of_clearing,
     "place-is": of_place, "place-unanswered": of_unanswered, "finished-after": of_finished_after,

@@ -12,9 +12,10 @@ from raceoffice import time_zones
 from raceoffice.characters import quoted
 from raceoffice.decisions import decision_lines
 from raceoffice.errors import ForeignPage, Unsure
-from raceoffice.results.html.sealing import ID, KIND, NUMBER, SETTINGS, Carried, Stamp, digest, form, marks
+from raceoffice.results.html.sealing import (ID, KIND, NUMBER, SETTINGS, Carried, Stamp, digest, form, marks,
+                                             without_note)
 from raceoffice.series.entry_list import ROOM, SAIL, plain
-from raceoffice.series.settings import CHECKS
+from raceoffice.series.settings import CHECKS, LINE_END
 
 START = f'<script type="{KIND}" id="{ID}">\n'
 END = "</script>"
@@ -225,7 +226,7 @@ def wrong_form(kept: Kept) -> str:
             return f"the page has the series {quoted(name)} twice"
     for carried in kept.series:
         wrong = (wrong_name(carried) or wrong_settings(carried) or wrong_boat(carried)
-                 or wrong_stamp(carried))
+                 or wrong_decision(carried) or wrong_stamp(carried))
         if wrong:
             return wrong
     return ""
@@ -259,6 +260,14 @@ def wrong_boat(carried: Carried) -> str:
         if sail in known:
             return f"{sail} has names twice"
         known.add(sail)
+    return ""
+
+
+def wrong_decision(carried: Carried) -> str:
+    """The line of the decisions that is several, or that has what a page leaves out."""
+    for line in carried.decisions:
+        if LINE_END.search(line) or without_note(line) != line:
+            return f"{quoted(line)} is no line of the decisions"
     return ""
 
 

@@ -43,7 +43,7 @@ PLAIN_NAME = re.compile(r"[\w./~+-]+")
 MESSAGE, LONGER = 400, 1 << 16
 # The most texts with odd signs that are named, and series whose scores are kept.
 BEWARES, SCORED = 5, 20
-# Seconds after which no other series of a page is scored.
+# Seconds after which nothing more of a page is worked out. The program has its own for each run.
 PATIENCE = 300.0
 VERIFIED, DIFFERS, UNSURE = 0, 1, 2
 
@@ -64,23 +64,29 @@ class Verifier:
         self.program, self.now = os.path.abspath(program), now
         self.views: dict[str, Snapshot] = {}
         self.last: Rebuilt | None = None
+        self.end = 0.0
 
     def rebuilt(self, kept: Kept) -> Rebuilt:
         """The page that raceoffice writes of what a page carries."""
         if self.last is None or self.last.kept != kept:
-            end = self.now() + PATIENCE
-            views = tuple(self.view(carried, kept.kind == "results", end) for carried in kept.series)
+            self.end = self.now() + PATIENCE
+            views = tuple(self.view(carried, kept.kind == "results") for carried in kept.series)
             made = Rebuilt(kept, views, page_of(kept, views))
+            self.need_time()
             compare_tables(made)
             self.last = made
         return self.last
 
-    def view(self, carried: Carried, with_course: bool, end: float) -> Snapshot:
-        """A series as the program scores it; Unsure if that would begin after the `end`."""
+    def need_time(self) -> None:
+        """Unsure if a page takes too long."""
+        if self.now() > self.end:
+            raise Unsure(f"its series take longer than {PATIENCE:g} seconds to score")
+
+    def view(self, carried: Carried, with_course: bool) -> Snapshot:
+        """A series as the program scores it."""
         key = repr((carried, with_course))
         if key not in self.views:
-            if self.now() > end:
-                raise Unsure(f"its series take longer than {PATIENCE:g} seconds to score")
+            self.need_time()
             if len(self.views) >= SCORED:
                 self.views.clear()
             self.views[key] = self.fresh_view(carried, with_course)
@@ -92,7 +98,9 @@ class Verifier:
         sheet = self.sheet(shown, journal)
         standing, options = Standing.read(list(sheet.table)), shown.options()
         text = "".join(f"{line}\n" for line in carried.decisions)
+        self.need_time()
         found = self.decided(options, journal, text)
+        self.need_time()
         is_excluded = any(score.excluded for row in standing.rows for score in row.scores)
         totals = nets_before_exclusion(self.program, options, journal) if is_excluded else {}
         course = self.course(options, journal, standing) if with_course else ()
@@ -105,8 +113,13 @@ class Verifier:
     def course(self, options: list[str], journal: list[str], standing: Standing) -> tuple[Standing, ...]:
         """The standing after each race. Meanwhile the terminal shows no word of the page."""
         progress = Progress("Scoring again")
+
+        def tell(done: int, whole: int) -> None:
+            self.need_time()
+            progress(done, whole)
+
         try:
-            return developed(self.program, options, journal, standing.races, progress)
+            return developed(self.program, options, journal, standing.races, tell)
         finally:
             progress.end()
 

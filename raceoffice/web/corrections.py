@@ -5,12 +5,17 @@ sends what is left of them. Until somebody does that, or leaves the rest, the sc
 """
 from __future__ import annotations
 
-from collections.abc import Mapping, Sequence
+import contextlib
+from collections.abc import Iterator, Mapping, Sequence
 from typing import Any
 
 from raceoffice.errors import NotSent
 from raceoffice.program.replay import Line
+from raceoffice.series.line_order import ORDERING, LineOrder, Meant
+from raceoffice.session.dialogue import Question
+from raceoffice.session.question_words import question
 from raceoffice.web import preview
+from raceoffice.web.finish_order import without_place
 from raceoffice.web.requests import Wrong
 from raceoffice.web.room import Room
 from raceoffice.web.rulings import asked_first, tap_of
@@ -23,9 +28,9 @@ KINDS = ("STRIKE", "FINISH", "TIE", "BEFORE", "TIME", "TIMES", "MARK", "PENALTY"
 MOST = 4000
 
 
-def correct(room: Room, values: Mapping[str, Any], name: str) -> list[Values]:
-    """Sends the lines of a correction, or what is left of them; what came of each. The same again gets the same answer.
-    `name` is the device's."""
+def correct(room: Room, values: Mapping[str, Any], name: str) -> Values:
+    """Sends the lines of a correction, or what is left of them; what came of each, and whether all were taken. The same
+    again gets the same answer. `name` is the device's."""
     tap, lines = tap_of(values), lines_in(values)
     with room.lock:
         room.session("SCORER").look()
@@ -35,6 +40,14 @@ def correct(room: Room, values: Mapping[str, Any], name: str) -> list[Values]:
         finally:
             room.register.under_way = ""
             room.news()
+
+
+def ask_first(room: Room, values: Mapping[str, Any]) -> None:
+    """Asks what is asked of the lines of a correction, of which none is sent."""
+    tap, lines = tap_of(values), lines_in(values)
+    with room.lock:
+        room.session("SCORER").look()
+        check(room, tap, lines)
 
 
 def leave_rest(room: Room, values: Mapping[str, Any]) -> None:
@@ -57,30 +70,58 @@ def lines_in(values: Mapping[str, Any]) -> list[Line]:
     return [Line("SCORER", " ".join(line.split())) for line in found]
 
 
-def sent_whole(room: Room, tap: Tap, given: Sequence[Line], name: str) -> list[Values]:
-    """Sends each line of a correction that wasn't sent yet; what came of each. After a refusal no more is sent."""
-    key = correction_of(tap.id)
-    if key not in room.register.decisions:
+def sent_whole(room: Room, tap: Tap, given: Sequence[Line], name: str) -> Values:
+    """Sends each line of a correction that wasn't sent yet; what came of them, and which are left. After a refusal no more
+    is sent."""
+    key, register = correction_of(tap.id), room.register
+    if key not in register.decisions:
         check(room, tap, given)
-        room.register.decide(key, given)
-    held, found = room.register.decisions[key], list[Values]()
-    for at, line in enumerate(held or given):
-        if not held and part_id(tap.id, at) not in room.register.sent:
-            # The rest was left.
+        register.decide(key, given)
+    is_held, whole, done = bool(register.decisions[key]), register.corrections.get(key, []), list[Values]()
+    for at, line in enumerate(whole):
+        part = Tap(part_id(tap.id, at), line.text, tap.at, agreed=tap.agreed)
+        # Of one that somebody has left nothing more is sent.
+        came = room.do("SCORER", name, part) if is_held else room.done(part)
+        if came is None:
             break
-        found.append(room.do("SCORER", name, Tap(part_id(tap.id, at), line.text, tap.at, agreed=tap.agreed)))
-        if found[-1]["outcome"] == "refused":
+        done.append(came)
+        if came["outcome"] == "refused":
             break
-    if held and (len(found) == 1 or found[-1]["outcome"] != "refused"):
+    is_refused = bool(done) and done[-1]["outcome"] == "refused"
+    if is_held and (len(done) == 1 or not is_refused):
         # Nothing is left of it, or nothing was done.
-        room.register.decide(key, [])
-    return found
+        register.decide(key, [])
+    left = [line.text for line in whole[len(done) - is_refused:]]
+    return {"outcome": "refused" if is_refused else "left" if left else "taken", "done": done, "left": left}
 
 
 def check(room: Room, tap: Tap, lines: Sequence[Line]) -> None:
     """Asks what the office asks of the lines before the first is sent; NotSent if the program would refuse one."""
-    for asked in asked_first(room, lines):
+    plain = [Line(line.role, without_place(line.text)[0]) for line in lines]
+    for asked in [*asked_first(room, plain), *asked_of_places(room, lines)]:
         if asked not in tap.agreed:
             raise Asked(asked, [])
-    if not room.folder.settings.handicap and (refused := preview.why_refused(room.folder, room.facts, lines)):
+    if not room.folder.settings.handicap and (refused := preview.why_refused(room.folder, room.facts, plain)):
         raise NotSent(*refused)
+
+
+def asked_of_places(room: Room, lines: Sequence[Line]) -> Iterator[Question]:
+    """What is asked of boats that are put elsewhere: whether they are behind places now that they were ahead of."""
+    history, orders = room.session("SCORER").history, dict[int, LineOrder]()
+    for line in lines:
+        text, later = without_place(line.text)
+        command, number, sail, *other = [*text.split(), ""][:4]
+        if command not in ORDERING:
+            continue
+        race = room.facts.race(number).number
+        if race not in orders:
+            orders[race] = history.order(race)
+        order, marks = orders[race], history.waiting.marks(race)
+        if later:
+            history.waiting.one(race, later)
+        for mark in order.ahead_before(text, later) if command in ("FINISH", "BEFORE") else []:
+            if mark in marks:
+                yield question("finished-after", room.facts.called, mark=mark, sail=sail)
+                order.ahead[mark].discard(sail)
+        with contextlib.suppress(ValueError):
+            order.follow([command, sail, *filter(None, other)], Meant("back", later) if later else Meant())

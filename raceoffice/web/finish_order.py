@@ -28,6 +28,14 @@ class Elsewhere(Exception):
         self.question, self.clock = asked, clock
 
 
+def without_place(line: str) -> tuple[str, str]:
+    """A line that puts a boat ahead of another, and also just ahead of a place that is kept before that one, as
+    `BEFORE 3 GBR7 FRA9 ?1`: the program's line, and the place. Any other line has none."""
+    words = line.split()
+    is_ahead = len(words) == 5 and words[0] == "BEFORE" and is_mark(words[4])
+    return (" ".join(words[:4]), words[4]) if is_ahead else (line, "")
+
+
 def line_in_order(facts: Facts, times: Times, own: Collection[str], tap: Tap, line: str, order: Race) -> tuple[str, str]:
     """The line that puts a finisher where she was seen, after all or by the clock, and the place that she is just ahead
     of, if she is of one; Elsewhere asks. `order` has the places that are kept, and `own` are those of her device."""
@@ -43,12 +51,13 @@ def line_in_order(facts: Facts, times: Times, own: Collection[str], tap: Tap, li
     if is_last and not close:
         return line, ""
     clock, ahead = line_ahead(order, line, later[0]) if later else (line, "")
-    if tap.by_clock:
+    untimed = [name for name in untimed_before(order.order, later, times) if name in since]
+    if is_by_clock(tap, later, untimed):
         return clock, ahead
     others = [name for name in since if not is_mark(name) or name in close]
     next_one = ahead or (clock.split()[3] if later else "")
     raise Elsewhere(question("others-recorded", facts.called, race=race.number, sail=sail, others=others,
-                             ahead=next_one), f"BEFORE {number} {sail} {next_one}" if later else line)
+                             ahead=next_one, untimed=untimed), f"BEFORE {number} {sail} {next_one}" if later else line)
 
 
 def line_ahead(order: Race, line: str, group: Sequence[str]) -> tuple[str, str]:
@@ -64,14 +73,22 @@ def later_in_order(facts: Facts, times: Times, tap: Tap, race: Race) -> str:
     if others were recorded since the tap. `race` has the places that are kept in its order."""
     after = groups_after(race, tap.behind or "")
     others = [name for group in after for name in group if not is_mark(name)]
-    later = [group[0] for group in later_groups(after, times, tap.at)]
+    later = later_groups(after, times, tap.at)
     if not later and are_before(others[-1:], times, tap.at):
         return ""
-    if tap.by_clock:
-        return next(iter(later), "")
-    clock = f"BEFORE {race.number} ? {later[0]}" if later else tap.line
-    raise Elsewhere(question("others-recorded", facts.called, race=race.number, sail="?", others=others,
-                             ahead=next(iter(later), "")), clock)
+    ahead, untimed = later[0][0] if later else "", untimed_before(after, later, times)
+    if is_by_clock(tap, later, untimed):
+        return ahead
+    clock = f"BEFORE {race.number} ? {ahead}" if later else tap.line
+    raise Elsewhere(question("others-recorded", facts.called, race=race.number, sail="?", others=others, ahead=ahead,
+                             untimed=untimed), clock)
+
+
+def is_by_clock(tap: Tap, later: Sequence[object], untimed: Collection[str]) -> bool:
+    """Whether somebody goes by the clock, and was told of those of whom it says nothing."""
+    told = [one.values.get("untimed") for one in tap.agreed if one.kind == "others-recorded"]
+    is_told = any(isinstance(names, tuple) and {*untimed} <= {*names} for names in told)
+    return tap.by_clock and (not untimed or bool(later) and is_told)
 
 
 def are_before(names: Sequence[str], times: Times, at: int) -> bool:
@@ -80,10 +97,26 @@ def are_before(names: Sequence[str], times: Times, at: int) -> bool:
 
 
 def later_groups(groups: Sequence[Sequence[str]], times: Times, at: int) -> list[Sequence[str]]:
-    """Those at the end of an order that finished later than a moment by the clock."""
-    found = itertools.takewhile(lambda group: min([times[name] for name in group if name in times], default=at) > at,
-                                reversed(groups))
-    return list(found)[::-1]
+    """Those at the end of an order that finished later than a moment by the clock. Whoever has no moment is no earlier
+    than those ahead of her."""
+    latest, found = 0, list[Sequence[str]]()
+    for group in groups:
+        moments = moments_in(group, times)
+        found = [*found, group] if min(moments, default=latest) > at else []
+        latest = max([latest, *moments])
+    return found
+
+
+def untimed_before(groups: Sequence[Sequence[str]], later: Sequence[Sequence[str]], times: Times) -> list[str]:
+    """The boats just ahead of those at the end of an order of whom no moment is known."""
+    before = list(groups)[:len(groups) - len(later)]
+    found = itertools.takewhile(lambda group: not moments_in(group, times), reversed(before))
+    return [name for group in list(found)[::-1] for name in group]
+
+
+def moments_in(group: Sequence[str], times: Times) -> list[int]:
+    """The moments of a group that are known."""
+    return [times[name] for name in group if name in times]
 
 
 def groups_after(race: Race, behind: str) -> list[list[str]]:

@@ -34,9 +34,9 @@ RETRY = "retry: 1500\n\n"
 ROOM, SPARE, CROWD, OTHERS = 8192, 64, 2000, 256
 # How many at one address may wait for news of the board: two for each of three hundred phones.
 WATCHING = 600
-# How many requests of one address are answered at once, and each second from then on: three hundred phones may
-# have one address.
-AT_ONCE, EACH_SECOND = 2000, 800
+# How many requests of a device, or of all strangers at one address, are answered at once, and each second from then on:
+# three hundred phones may have one address.
+AT_ONCE, EACH_SECOND = 600, 300
 # How many may wait to be let in, and how many are let in at once.
 WAITING, TOGETHER = 1024, 16
 # Seconds for a connection to end in order.
@@ -169,11 +169,11 @@ class Waiting:
 
 class Host:
     """Answers at an address. `answer` says what is sent for a request, `room` how many bytes its body may
-    have; what goes wrong in that is noted."""
+    have, and `device` the name of the device that it comes from, if that is known; what goes wrong in that is noted."""
 
     def __init__(self, answer: Callable[[Request], Awaitable[Reply | Waiting]], room: Callable[[Request], int],
-                 note: Callable[[str], None]) -> None:
-        self.answer, self.room, self.note = answer, room, note
+                 note: Callable[[str], None], device: Callable[[Request], str] = lambda _: "") -> None:
+        self.answer, self.room, self.note, self.device = answer, room, note, device
         self.most = max(8, system.room_for_files(ROOM) - SPARE)
         self.most_of_one = max(4, min(CROWD, self.most - OTHERS))
         self.open = 0
@@ -273,10 +273,12 @@ class Host:
                 return False
             request = await with_body(reader, request, self.room(request))
         except Wrong as wrong:
+            await asyncio.sleep(self.turns.pause(address))
             await send(writer, bytes_of(wrong.reply(), True, False))
             return False
-        # However many requests have come already, those of others have their turn in between.
-        await asyncio.sleep(self.turns.pause(address))
+        # However many requests have come already, those of others have their turn in between. Strangers don't take the
+        # turns of a device that has their address.
+        await asyncio.sleep(self.turns.pause(self.device(request) or address))
         try:
             reply = await self.answer(request)
         except Wrong as wrong:

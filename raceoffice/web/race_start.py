@@ -8,7 +8,8 @@ from collections.abc import Iterator
 from raceoffice.corrected.sheets import with_seconds
 from raceoffice.corrected.write_sheet import SheetOfRace
 from raceoffice.series.folder import Folder
-from raceoffice.web.taps import Register, Sent
+from raceoffice.time_zones import changes_of
+from raceoffice.web.taps import Register, Sent, Tap
 
 Zone = datetime.tzinfo | None
 
@@ -22,6 +23,15 @@ def starts_given(register: Register, race: int) -> list[Sent]:
 def start_of(sent: Sent) -> str:
     """The start that a tap gave, as a sheet has it."""
     return with_seconds("start", sent.line.split()[-1])
+
+
+def is_start_seen(register: Register, race: int, start: str, tap: Tap, by: str) -> bool:
+    """Whether a tap of a device, `by`, that gives a race another start, was made by somebody who knew that it had this
+    one: the device had given it, or showed it. An older page doesn't say what it showed: then the moments decide."""
+    last = starts_given(register, race)[-1:]
+    if tap.was is None:
+        return was_given_before(register, race, start, tap.at)
+    return with_seconds("start", tap.was) == start or any(start_of(one) == start and one.by == by for one in last)
 
 
 def was_given_before(register: Register, race: int, start: str, at: int) -> bool:
@@ -76,6 +86,11 @@ def by_clock_of_start(folder: Folder, register: Register, race: int, sheet: Shee
         held = sheet.cells(words[2])["finish"]
         if held and held == sent.made.get("finish"):
             sheet.put(sheet.row(words[2]), "finish", clock_text(folder, sent.at, since))
+
+
+def clock_shown(folder: Folder) -> list[list[int]]:
+    """The clock of the series' zone, for pages: a device may be in another."""
+    return changes_of(zone_of(folder), datetime.datetime.now(datetime.timezone.utc))
 
 
 def utc(at: int) -> datetime.datetime:

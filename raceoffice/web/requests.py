@@ -16,8 +16,10 @@ from typing import Any
 
 # Seconds for a request's head to come, for its body, and for a connection without a request.
 HEAD_TIME, BODY_TIME, IDLE = 10.0, 30.0, 70.0
-# The most bytes of a request's head.
-HEAD = 16 << 10
+# The most bytes of a request's head and of its first line; how many fields and cookies it may have, and how many parts
+# its path. Whatever it has, reading it takes the thread of all connections less than a millisecond.
+HEAD, LINE = 16 << 10, 2 << 10
+FIELDS, COOKIES, PARTS = 100, 200, 16
 REASONS = {200: "OK", 204: "No Content", 301: "Moved Permanently", 304: "Not Modified",
            400: "Bad Request", 401: "Unauthorized", 403: "Forbidden", 404: "Not Found",
            405: "Method Not Allowed", 408: "Request Timeout", 409: "Conflict", 413: "Content Too Large",
@@ -87,14 +89,14 @@ class Request:
         return found
 
     def cookie(self, name: str) -> str:
-        pairs = (part.strip().partition("=") for part in self.fields.get("cookie", "").split(";"))
+        pairs = (part.strip().partition("=") for part in self.fields.get("cookie", "").split(";", COOKIES))
         return next((value for key, _, value in pairs if key == name), "")
 
     @property
     def takes_gzip(self) -> bool:
         return "gzip" in self.fields.get("accept-encoding", "").replace(" ", "").split(",")
 
-    @property
+    @functools.cached_property
     def parts(self) -> list[str]:
         """The parts of its path, decoded; none for `/`."""
         return [urllib.parse.unquote(part) for part in self.path.strip("/").split("/") if part]
@@ -186,7 +188,10 @@ async def head_of(reader: asyncio.StreamReader, writer: asyncio.StreamWriter, ad
 
 
 def request_of(head: bytes, address: str) -> Request:
-    """A head as a request; Wrong if it isn't one."""
+    """A head as a request; Wrong if it isn't one, or has too much to be read."""
+    # Its last line is empty.
+    if head.find(b"\r\n") > LINE or head.count(b"\r\n") > FIELDS + 2:
+        raise Wrong(431)
     line, *lines = head.decode("latin-1").split("\r\n")
     words = line.split(" ")
     if len(words) != 3 or not words[2].startswith("HTTP/1.") or not words[1].startswith("/"):
@@ -202,6 +207,8 @@ def request_of(head: bytes, address: str) -> Request:
     if "transfer-encoding" in fields:
         raise Wrong(400, "the body needs its length")
     path, _, query = words[1].partition("?")
+    if path.count("/") > PARTS:
+        raise Wrong(404)
     return Request(words[0], path, fields, address, query=query)
 
 

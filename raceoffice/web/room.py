@@ -24,13 +24,14 @@ from raceoffice.session.facts import Facts
 from raceoffice.session.question_words import question
 from raceoffice.session.undo import later_entry
 from raceoffice.traces import guarded
-from raceoffice.web.finish_order import line_in_order, later_in_order
+from raceoffice.web.finish_order import Moments, later_in_order, line_in_order, without_place
 from raceoffice.web.preview import decided_shown
+from raceoffice.web.race_start import clock_shown
 from raceoffice.web.sheet_waits import with_reasons
 from raceoffice.web.states import (Values, boats_of, moves_of, races_of, rules_of, said_of, standing_of, unlisted)
 from raceoffice.web.tap_session import DROPPED, TapSession
 from raceoffice.web.taps import PLACED, Register, Sent, Tap, number_of, said_again
-from raceoffice.web.timed_taps import TimedTap, boats_waiting, is_timed_tap, sheets_shown, with_typed_times
+from raceoffice.web.timed_taps import TimedTap, is_timed_tap, sheets_shown, with_typed_times
 from raceoffice.web.timed_undo import timed_undo
 
 # Seconds between two looks at whether the journal has grown, and between two tries at an office that isn't
@@ -136,7 +137,7 @@ class Room:
         found: Values = {
             "class": self.folder.name, "title": settings.title, "group": settings.group,
             "version": self.version, "entries": len(facts.sheet.journal), "trouble": self.trouble,
-            "handicap": settings.handicap, "rules": settings.in_words(), "settings": rules_of(settings),
+            "handicap": settings.handicap, "zone": clock_shown(self.folder), "rules": settings.in_words(), "settings": rules_of(settings),
             "boats": boats_of(facts), "races": self.races(facts)}
         if is_whole:
             found |= {"standing": standing_of(facts.standing), "last": self.last,
@@ -147,10 +148,22 @@ class Room:
 
     def races(self, facts: Facts) -> Values:
         """The races of which anything is recorded, with their sheets of times if the class has some."""
-        moments = self.register.moments(facts.sheet.journal)
+        moments = self.moments(facts)
         sheets = with_reasons(self.folder, sheets_shown(self.folder))
         return {number: values | ({"sheet": sheets[int(number)]} if int(number) in sheets else {})
                 for number, values in races_of(facts, self.history.waiting, moments, sheets).items()}
+
+    def moments(self, facts: Facts) -> Moments:
+        """When each finisher crossed the line, and who recorded her, as far as that is known. A boat that was put into a
+        place did when that was kept."""
+        found = self.register.moments(facts.sheet.journal)
+        for race in {note.race for note in self.history.placed}:
+            marks = self.times_of_places(self.history, race)
+            for sail, mark in self.history.boats_in_places(race).items():
+                end = self.history.ended.get((race, mark))
+                if mark in marks and end:
+                    found[race, sail] = marks[mark], found.get((race, sail), (0, end.by))[1]
+        return found
 
     # The office
 
@@ -308,8 +321,6 @@ class Room:
             # What came of that one is known before it is undone.
             self.done(Tap(tap.undoes, ""))
         line, before, last = self.line_of(session, tap), self.facts.standing, self.last
-        if line.startswith("SCORE ") and (waiting := boats_waiting(self.folder, self.facts.race(line.split()[1]))):
-            session.say_of("sheet-waits", fault=", ".join(map(self.facts.called, waiting)))
         is_timed = self.is_for_sheet(tap.id, line, session.role)
         is_taken = TimedTap(session, line).is_taken() if is_timed else session.is_tap_taken(line)
         sent = self.register.sent.get(tap.id)
@@ -362,9 +373,15 @@ class Room:
         if tap.undoes and self.register.sent[tap.undoes].line.startswith("STRIKE "):
             # Only the office knows where she was among the places that are kept.
             return "UNDO"
-        typed, times = with_typed_times(self.folder, tap.line)
+        plain, session.later = without_place(tap.line)
+        if session.later:
+            session.unread.one(session.facts.race(plain.split()[1]).number, session.later)
+        typed, times = with_typed_times(self.folder, plain)
         line = session.line(typed)
         if self.is_for_sheet(tap.id, line, session.role):
+            if line.startswith("STRIKE ") and not session.is_begun:
+                # She may have another finish by now than the one that was struck on the device.
+                self.ask_again(session, tap, line)
             return f"{line} {times}".rstrip()
         if line.startswith("FINISH "):
             order = self.order_with_places(session, session.facts.race(line.split()[1]))
@@ -385,10 +402,15 @@ class Room:
     def times_in(self, session: TapSession, race: int) -> dict[str, int]:
         """When each boat and each place of a race crossed the line, as far as that is known. A boat that was put into a
         place did when that was kept."""
-        moments, history = self.register.moments(self.facts.sheet.journal), session.history
-        marks = history.moments(race) | {mark: at for (of, mark), at in self.register.moments_of_places().items() if of == race}
-        boats = {sail: at for (of, sail), (at, _) in moments.items() if of == race}
+        moments, history = self.register.moments_now(self.facts.sheet.journal), session.history
+        marks = self.times_of_places(history, race)
+        boats = {sail: at for (of, sail), at in moments.items() if of == race}
         return boats | {sail: marks[mark] for sail, mark in history.boats_in_places(race).items() if mark in marks} | marks
+
+    def times_of_places(self, history: History, race: int) -> dict[str, int]:
+        """When each place of a race was kept, by a tap or in a window."""
+        tapped = {mark: at for (of, mark), at in self.register.moments_of_places().items() if of == race}
+        return history.moments(race) | tapped
 
     def line_of_undo(self, session: TapSession, tap: Tap) -> str:
         """The line that undoes a tap for a sheet of times; empty if it was none for one."""
@@ -427,8 +449,9 @@ class Room:
             # The office refuses it (8).
             return
         commands, wanted, journal = session.facts.commands, as_kept(line), session.facts.sheet.journal
-        # A finisher whose tap was undone may be tapped again on the same device.
-        own = self.register.entries_by(session.name, journal) if words[0] in PLACED else ()
+        # A finisher whose tap was undone may be tapped again on the same device, and a sheet's finish struck again.
+        is_own_meant = words[0] in PLACED or self.folder.settings.handicap
+        own = self.register.entries_by(session.name, journal) if is_own_meant else ()
         later = [at for at, text in enumerate(commands[tap.seen:], tap.seen + 1) if text == wanted and journal[at - 1] not in own]
         if later:
             session.is_agreed(question("sent-already", session.facts.called, line=line, entry=later[-1]))

@@ -70,13 +70,23 @@ class Routes:
         self.files = static_files()
         self.states: dict[tuple[str, bool], tuple[int, bytes]] = {}
 
+    def sender(self, request: Request) -> Device | None:
+        """The device that a request comes from, if it is known and asks for an address of its role."""
+        parts = request.parts
+        role = parts[1].upper() if parts[:1] == ["office"] and len(parts) > 1 else ""
+        return self.gate.known(request, role) if role in ROLES else None
+
+    def name_of(self, request: Request) -> str:
+        """What the device that a request comes from is known by; nothing of a stranger."""
+        device = self.sender(request)
+        return device.mark if device else ""
+
     def room_for(self, request: Request) -> int:
         """How many bytes a request's body may have."""
-        parts = request.parts
-        role = parts[1].upper() if parts[:1] == ["office"] and len(parts) > 2 else ""
-        if role not in ROLES or self.gate.known(request, role) is None:
+        device = self.sender(request)
+        if device is None:
             return FOR_ALL
-        return FOR_LISTS if parts[2] in ("list", "new") and role == "SCORER" else FOR_DEVICES
+        return FOR_LISTS if request.parts[2:3] in (["list"], ["new"]) and device.role == "SCORER" else FOR_DEVICES
 
     async def answer(self, request: Request) -> Reply | Waiting:
         self.gate.check_host(request)
@@ -360,13 +370,17 @@ class Routes:
 
     @staticmethod
     def correct(request: Request, device: Device, room: Room) -> Reply:
-        """Sends the lines of a correction, or leaves what is left of one."""
+        """Sends the lines of a correction, asks of them alone, or leaves what is left of one."""
         values = request.values()
+        if values.get("ask") is True:
+            corrections.ask_first(room, values)
+            return reply_of({"outcome": "asked", "version": room.version})
         if values.get("leave") is True:
             corrections.leave_rest(room, values)
             return reply_of({"outcome": "left", "version": room.version})
-        done = corrections.correct(room, values, device.name)
-        return reply_of({"outcome": "taken", "done": done, "version": room.version})
+        found = corrections.correct(room, values, device.name)
+        found["version"] = room.version
+        return reply_of(found)
 
     # What the scorer may do beside lines
 

@@ -27,7 +27,7 @@ from raceoffice.web import preview
 from raceoffice.web.kept_office import KeptOffice
 from raceoffice.web.new_series import GIVEN, setting_given, wrong_in, wrong_settings
 from raceoffice.web.states import Values, remarks_of, rules_of
-from raceoffice.web.timed_taps import sheets_shown
+from raceoffice.web.timed_taps import races_begun
 
 # What pages show as soon as it is saved.
 AT_ONCE = ("title", "class", "club")
@@ -117,8 +117,7 @@ def effect(folder: Folder, facts: Facts, values: Mapping[str, Any]) -> Values:
 
 def need_no_race(folder: Folder, facts: Facts, is_zone: bool) -> None:
     """NotSent if the time zone would change while a race is on: the times of one race are by one clock."""
-    sheets = sheets_shown(folder) if is_zone and facts.sheet.journal else {}
-    for race in [race for race, sheet in sheets.items() if sheet["start"] or sheet["rows"]]:
+    for race in races_begun(folder) if is_zone and facts.sheet.journal else []:
         if not facts.race(str(race)).counts:
             raise NotSent(remark("zone-in-race", race=race))
 

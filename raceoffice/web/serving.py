@@ -127,7 +127,7 @@ class Web:
         secure = self.secure()
         loop, end = asyncio.get_running_loop(), asyncio.Event()
         loop.set_exception_handler(lambda _, context: None)
-        host = Host(self.routes.answer, self.routes.room_for, self.note)
+        host = Host(self.routes.answer, self.routes.room_for, self.note, self.routes.name_of)
         await host.start("0.0.0.0", self.asked.port, secure)
         await loop.run_in_executor(None, self.open_all)
         for number in system.STOPS:

@@ -23,7 +23,7 @@ from raceoffice.session.seat import Done
 from raceoffice.session.session import Session
 from raceoffice.session.undo import undo
 from raceoffice.terminal import Once
-from raceoffice.web.taps import Register, Sent, Tap, last_numbers, number_of
+from raceoffice.web.taps import Register, Sent, Tap, finisher_of, last_numbers, number_of
 
 # How the register has a place that was dropped, or kept again.
 DROPPED, KEPT_AGAIN = "NONE", "AGAIN"
@@ -162,14 +162,37 @@ class TapSession(Session):
 
     # What is noted in the register before it is done
 
-    def sent_now(self, id: str, line: str) -> Sent:
-        """What the register is to have of a line, as the journal is now."""
+    def sent_now(self, id: str, line: str, mark: str = "") -> Sent:
+        """What the register is to have of a line, as the journal is now. `mark` is the place that its boat was kept in."""
         journal = self.facts.sheet.journal
-        return Sent(id, self.role, line, self.tap.at, self.name, len(journal), os.getpid(), numbers=last_numbers(journal))
+        return Sent(id, self.role, line, self.moment_of(line, mark), self.name, len(journal), os.getpid(),
+                    numbers=last_numbers(journal))
 
-    def note_begin(self, id: str, line: str) -> None:
+    def moment_of(self, line: str, mark: str) -> int:
+        """When the boat of a line crossed the line of its race, as far as taps show that, or 0; of another line, when it
+        was tapped. A correction, or a boat that is put ahead of another, comes some time after she was seen."""
+        finisher = finisher_of(line)
+        if finisher is None:
+            return self.tap.at
+        race, sail = finisher
+        if mark:
+            return self.register.moments_of_places().get((race, mark), 0)
+        command, *words = self.tap.line.split()
+        if self.folder.settings.handicap:
+            return self.tap.at if command == "FINISH" and sail.endswith(words[-1]) else 0
+        journal = self.facts.sheet.journal
+        if self.tap.undoes:
+            # She is where she was before she was struck.
+            return self.register.moments_now(journal).get(finisher, 0)
+        if self.role != "FINISH":
+            return 0
+        if command == "TIE":
+            return self.register.moments_now(journal).get((race, line.split()[3]), 0)
+        return self.tap.at if command == "FINISH" else 0
+
+    def note_begin(self, id: str, line: str, mark: str = "") -> None:
         """Notes, on the disk, that a line is about to be sent, or something else to be done."""
-        self.register.begin(self.sent_now(id, line))
+        self.register.begin(self.sent_now(id, line, mark))
 
     @property
     def is_begun(self) -> bool:
@@ -212,7 +235,7 @@ class TapSession(Session):
         self.lines += 1
         self.mark = unread.mark if unread else self.mark
         id = f"{self.tap.id}/{self.lines}" if self.is_of_several else self.tap.id
-        self.note_begin(id, line)
+        self.note_begin(id, line, unread.mark if unread else "")
         self.answer = super().exchange(line, unread)
         self.register.end(id, self.answer, self.mark)
         return self.answer

@@ -2,16 +2,17 @@
 of that goes to the office as lines."""
 from __future__ import annotations
 
+import contextlib
 import dataclasses
 import functools
 from collections.abc import Sequence
 
 from raceoffice.corrected.sheets import Entry, entries_of, with_seconds
 from raceoffice.corrected.times import Rules, Sheets
+from raceoffice.corrected.unsent import unsent
 from raceoffice.corrected.write_sheet import SheetOfRace, is_for_sheet
 from raceoffice.errors import NotNow, NotSent, NotThere, Trouble
 from raceoffice.program.codes import OF_JURY
-from raceoffice.program.journal import Race
 from raceoffice.program.replay import Line
 from raceoffice.remarks import remark
 from raceoffice.series.folder import Folder
@@ -21,7 +22,7 @@ from raceoffice.series.sender import not_taken
 from raceoffice.session.sending import is_meant, transmit
 from raceoffice.session.facts import Facts
 from raceoffice.terminal import sentence
-from raceoffice.web.race_start import by_clock_of_start, clock_of_race, clock_text, was_given_before
+from raceoffice.web.race_start import by_clock_of_start, clock_of_race, clock_text, is_start_seen
 from raceoffice.web.row_changes import cells_of, is_answered, is_made, note_tapped_too
 from raceoffice.web.states import Values, remarks_of
 from raceoffice.web.tap_session import TapSession
@@ -155,15 +156,14 @@ class TimedTap:
             sheet.code(self.sail, "")
 
     def start(self, sheet: SheetOfRace) -> None:
-        """Gives the race its start. If it has had another one since the tap, that is asked."""
-        register, at, before = self.session.register, self.session.tap.at, sheet.starts
+        """Gives the race its start. If it has another one by now than the device showed, that is asked."""
+        register, at, before, race = self.session.register, self.session.tap.at, sheet.starts, self.race.number
         text = self.rest[0] if self.rest else clock_text(self.folder, at)
         self.rest = [text]
         sheet.start(text, self.session.facts.boats)
-        if before != sheet.starts and before and not was_given_before(register, self.race.number, before[0], at):
-            self.session.is_yes(self.session.question("start-since", race=self.race.number, start=before[0],
-                                                      written=sheet.starts[0]))
-        by_clock_of_start(self.folder, register, self.race.number, sheet, at)
+        if before not in ([], sheet.starts) and not is_start_seen(register, race, before[0], self.session.tap, self.session.name):
+            self.session.is_yes(self.session.question("start-since", race=race, start=before[0], written=sheet.starts[0]))
+        by_clock_of_start(self.folder, register, race, sheet, at)
 
     def finish(self, sheet: SheetOfRace) -> None:
         """Gives the boat her finish. A tap at a boat that has another one is noted."""
@@ -254,18 +254,20 @@ def sheets_shown(folder: Folder) -> dict[int, Values]:
     return found
 
 
-def boats_waiting(folder: Folder, race: Race) -> list[str]:
-    """The boats whose times or codes are in the sheet of a race, and not in the journal."""
-    rows = sheets_shown(folder).get(race.number, {}).get("rows")
-    return [sail for sail in rows if sail not in race.times and sail not in race.codes] if isinstance(rows, dict) else []
+def races_begun(folder: Folder) -> list[int]:
+    """The races whose sheets have a start, a time or a code, as far as they can be read."""
+    found = []
+    for race in races_with_sheet(folder) if folder.settings.handicap else []:
+        with contextlib.suppress(Trouble):
+            rows, _ = entries_of(bytes_of(folder.file(sheet_name(race))), sheet_name(race))
+            found += [race] if any(row.cells["start"] or row.is_timed or row.code for row in rows) else []
+    return found
 
 
 def races_waiting(folder: Folder, facts: Facts, sail: str) -> list[int]:
-    """The races whose sheets have a time of a boat that the journal lacks, and that don't count yet."""
-    rows = {number: sheet["rows"] for number, sheet in sheets_shown(folder).items()}
-    times = {number: held.get(sail) for number, held in rows.items() if isinstance(held, dict)}
-    races = {number: facts.race(str(number)) for number, row in times.items() if row and not row["code"]}
-    return [number for number, race in races.items() if sail not in race.times and not race.counts]
+    """The races that don't count yet, and whose sheets have another time of a boat than the journal."""
+    races = [facts.race(str(number)) for number in races_with_sheet(folder)]
+    return [race.number for race in races if not race.counts and sail in unsent(folder, race.number, facts.sheet.journal).sails]
 
 
 def nights_of(folder: Folder) -> tuple[int, ...]:

@@ -11,7 +11,7 @@ from raceoffice.web.taps import part_id
 from web_office import SAILS, WebTrial, finishes
 
 ROW = ".order tr[data-sail={}]"
-ORDER = "[...document.querySelectorAll('.order tbody tr')].map(row => row.dataset.sail).join(' ')"
+ORDER = "[...document.querySelectorAll('.order tbody tr')].map(row => row.dataset.sail ?? '?').join(' ')"
 MOVE = ["STRIKE 1 NED12", "BEFORE 1 NED12 GBR101"]
 TAPS = ("cup", "office", "web.taps")
 
@@ -61,8 +61,39 @@ class Correction(WebTrial):
         self.shown(bea, "NED12", "GBR101", "GBR7")
         self.assertEqual(self.journal()[3:], [f"SCORER {line}" for line in MOVE])
 
-    def half_done(self) -> None:
-        """The web dies after the first of two lines."""
+    def test_swap_and_a_place(self) -> None:
+        """Two boats are swapped, and the places that are kept between them stay there."""
+        finish = web_devices.Device(self.port, "finish").come(self.links["finish"], "Ben")
+        for line in ("? 1", "? 1", f"FINISH 1 {SAILS[3]}"):
+            finish.tap(line)
+        bea = self.device("scorer", "Bea")
+        self.shown(bea, *SAILS[:3], "?", "?", SAILS[3])
+        bea.click(f"{ROW.format(SAILS[3])} th button")
+        bea.choose("swap")
+        bea.click("dialog [data-sail=NED12]")
+        self.shown(bea, *SAILS[:2], SAILS[3], "?", "?", "NED12")
+
+    def test_another_race_and_a_place(self) -> None:
+        """Boats among whom a place is kept don't go to another race until it is known who she was."""
+        finish = web_devices.Device(self.port, "finish").come(self.links["finish"], "Ben")
+        finish.tap("? 1")
+        bea, before = self.device("scorer", "Bea"), len(self.journal())
+        self.shown(bea, *SAILS[:3], "?")
+        for line in ("", "?1 1 NONE"):
+            if line:
+                finish.tap(line)
+                self.shown(bea, *SAILS[:3])
+            bea.click("#other-race")
+            bea.choose("yes")
+            if not line:
+                bea.until("document.querySelector('#alarm').textContent === '?1: a finisher without a sail'"
+                          " && document.querySelector('dialog[open]') === null")
+                self.assertEqual(len(self.journal()), before)
+        self.shown(bea)
+        self.assertEqual(len(self.journal()), before + 6)
+
+    def half_done(self) -> str:
+        """The web dies after the first of two lines; the identity of the move."""
         raw, id = web_devices.Device(self.port, "scorer").come(self.links["scorer"], "Cy"), web_devices.new_id()
         raw.tap(MOVE[0], part_id(id, 0))
         self.kill_web()
@@ -70,6 +101,7 @@ class Correction(WebTrial):
         noted = self.text(*TAPS).splitlines()
         self.write("\n".join([*noted[:-2], note, *noted[-2:], ""]), *TAPS)
         self.start()
+        return id
 
     def test_completed(self) -> None:
         """What is left of a move is said, and a button sends it."""
@@ -89,6 +121,27 @@ class Correction(WebTrial):
         bea.click(".leave-it")
         bea.until("!document.querySelector('.unfinished')")
         self.shown(bea, "GBR101", "GBR7")
+        self.assertEqual(self.journal()[3:], [f"SCORER {MOVE[0]}"])
+
+    def test_left_elsewhere(self) -> None:
+        """Another window has left it while this one had no connection: who sends the rest here hears that it isn't sent,
+        and isn't told that it was."""
+        line = self.line()
+        bea = self.device("scorer", "Bea", port=line.own)
+        self.shown(bea, *SAILS[:3])
+        id = self.half_done()
+        bea.until("document.querySelector('.finish-it') !== null")
+        line.cut()
+        bea.until("document.querySelector('#link').dataset.state === 'away'")
+        bea.click(".finish-it")
+        other = web_devices.Device(self.port, "scorer").come(self.links["scorer"], "Di")
+        left = other.ask("POST", "/office/scorer/correct/cup", {"id": id, "at": 1, "lines": [], "leave": True})
+        self.assertEqual(left[1]["outcome"], "left")
+        line.mend()
+        bea.until("document.querySelector('dialog .mono')?.textContent === 'BEFORE 1 NED12 GBR101'")
+        self.assertIn("These lines weren’t sent:", bea.text("dialog"))
+        self.assertNotIn("lines sent", bea.text())
+        bea.choose("ok")
         self.assertEqual(self.journal()[3:], [f"SCORER {MOVE[0]}"])
 
 

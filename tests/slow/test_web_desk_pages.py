@@ -4,6 +4,7 @@ from __future__ import annotations
 import os
 import unittest
 
+import helpers
 import web_devices
 from devices import Device
 from web_office import BOATS, FOLKBOATS, SAILS, WebTrial, entries_of, finishes
@@ -292,6 +293,72 @@ class TwoClasses(WebTrial):
             device.until("!document.querySelector('#stale')")
         self.assertEqual(self.journal()[-2:], ["JURY CLEAR 1 GBR7", "JURY REDRESS 1 GBR7 4.5"])
         self.need_no_faults()
+
+    def test_sent_again(self) -> None:
+        """The jury looks at another class while a decision waits for the network: it is sent about its own."""
+        desk = web_devices.Device(self.port, "scorer").come(self.links["scorer"], "Ada")
+        self.sail(desk, "cup", "GBR33", "GBR7")
+        self.sail(desk, "fleet", "GBR33", "NED80")
+        fleet, line = self.journal("fleet"), self.line()
+        jury = self.device("jury", "Protest room", port=line.own)
+        jury.click("#classes [data-key=cup]")
+        jury.until("!!document.querySelector('#race option')")
+        jury.click("#boat")
+        jury.click("dialog [data-sail=GBR33]")
+        jury.click("#what-NSC")
+        jury.until("!!document.querySelector('#send')")
+        line.cut()
+        jury.click("#send")
+        jury.until("document.querySelector('#link').dataset.state === 'away'")
+        jury.click("#classes [data-key=fleet]")
+        jury.click("#boat")
+        jury.click("dialog [data-sail=NED80]")
+        line.mend()
+        jury.until("document.querySelector('dialog[open]')?.textContent.includes('Autumn Cup: Race 1 counts already')")
+        jury.choose("yes")
+        helpers.until("its line", lambda: self.journal()[-1] == "SCORER MARK 1 GBR33 DNF")
+        self.assertEqual(self.text("cup", "decisions.txt"), "race 1 GBR33 NSC\n")
+        self.assertEqual((self.journal("fleet"), os.path.exists(os.path.join(self.here, "fleet", "decisions.txt"))), (fleet, False))
+        jury.until("document.querySelector('#said').textContent !== ''")
+        self.assertEqual((jury.text("#title"), jury.text("#boat")), ("Jury · Folkboats", "NED 80 Sterna"))
+        self.need_no_faults()
+
+    def test_asked_meanwhile(self) -> None:
+        """The scorer looks at another class before an answer has come: each question names its class, and what was begun goes
+        on in its own. A boat is taken out, and one comes late."""
+        scorer = self.device("scorer", "Bea’s laptop")
+        fleet = self.text("fleet", "journal.txt")
+        for button, choose, wanted in (("#take-out", "GBR33", "Autumn Cup: "), ("#late", "", "Autumn Cup: Late entry")):
+            scorer.click("#classes [data-key=cup]")
+            scorer.until("document.querySelector('#title').textContent === 'Autumn Cup' && !!document.querySelector('#late')")
+            scorer.run(HELD)
+            scorer.click(button)
+            if choose:
+                scorer.click(f"dialog [data-sail={choose}]")
+            scorer.until("window.held.length > 0")
+            scorer.click("#classes [data-key=fleet]")
+            scorer.until("document.querySelector('#title').textContent === 'Folkboats'")
+            scorer.run("window.release()")
+            scorer.until(f"document.querySelector('dialog[open]')?.textContent.includes('{wanted}')")
+            if not choose:
+                scorer.type("dialog input[placeholder]", "USA 4")
+            scorer.choose("yes")
+            if not choose:
+                scorer.until("document.querySelector('dialog[open]')?.textContent.includes('Autumn Cup: ')")
+                scorer.choose("yes")
+            helpers.until("the cup’s journal", lambda: ("GBR33" in self.text("cup", "journal.txt"), "USA4" in self.text("cup", "journal.txt"))
+                          == (False, not choose))
+        self.assertEqual(self.text("fleet", "journal.txt"), fleet)
+        self.need_no_faults()
+
+
+# Answers wait until they are released.
+HELD = """(() => {
+    const real = window.fetch;
+    window.held = [];
+    window.release = () => { window.fetch = real; window.held.splice(0).forEach(go => go()); };
+    window.fetch = async (...asked) => { await new Promise(go => window.held.push(go)); return real(...asked); };
+})()"""
 
 
 if __name__ == "__main__":

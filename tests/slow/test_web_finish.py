@@ -220,6 +220,23 @@ class Finish(WebTrial):
         ben.until("document.querySelectorAll('#list li').length === 6")
         self.assertEqual(ben.texts(ROWS), ["GBR 101", "GBR 33", "?1", "GBR 7", "FRA 9", "NED 12"])
 
+    def test_typed_meanwhile(self) -> None:
+        """It is said that the clock knows nothing of a boat that was typed in a window; whoever goes by it all the same is
+        asked once."""
+        line, ann, ben = self.parted()
+        helpers.run("type", "cup", "--role", "finish", lines="FINISH 1 NED12\n", cwd=self.here)
+        ann.tap("GBR7")
+        ann.tap("IRL5")
+        time.sleep(0.5)
+        ben.tap("FRA9")
+        self.settle(ben)
+        line.mend()
+        ann.until("!!document.querySelector('dialog[open]')")
+        self.assertIn("By the clock GBR 7 is ahead of FRA 9. No tap shows when NED 12 finished.", ann.text("dialog"))
+        ann.choose("clock")
+        self.settle(ann)
+        self.assertEqual(self.journal()[2:], ["FINISH FINISH 1 FRA9", "FINISH BEFORE 1 GBR7 FRA9", "FINISH BEFORE 1 IRL5 FRA9"])
+
     def test_a_place_meanwhile(self) -> None:
         """A boat that was tapped without a connection is ahead of a place that the other device has kept since."""
         line, ann, ben = self.parted()
@@ -289,15 +306,39 @@ def keys_of(values: object) -> object:
 
 class Two(WebTrial):
     """Two classes at one line."""
-    classes = {"cup": entries_of(BOATS[:14]), "fleet": entries_of(FOLKBOATS)}
+    classes = {"cup": entries_of(BOATS[:14]), "fleet": entries_of([*FOLKBOATS, ["DEN-7", "Havlit", "B. Juhl"]])}
 
-    def test_one_page_for_both(self) -> None:
+    def phone_of_both(self) -> Device:
+        """A phone that records the first race of each."""
         ann = self.phone()
         for at in (0, 1):
             ann.until("document.querySelectorAll('.race').length === 2")
             ann.run(f"document.querySelectorAll('.race')[{at}].click()")
             ann.click("dialog [data-race='1']")
             ann.until("!document.querySelector('dialog')")
+        return ann
+
+    def test_level_with_the_last(self) -> None:
+        """Level is with the boat that finished last, of whichever class, also if her sail has a hyphen, or if no tap shows
+        when she finished."""
+        ann = self.phone_of_both()
+        ann.tap("GBR101", "cup")
+        ann.tap("DEN-7", "fleet")
+        self.settle(ann)
+        ann.click("#level")
+        ann.tap("NED80", "fleet")
+        self.settle(ann)
+        helpers.run("type", "fleet", "--role", "finish", lines="FINISH 1 SWE2\n", cwd=self.here)
+        ann.until("document.querySelectorAll('#list li').length === 4")
+        ann.click("#level")
+        ann.tap("GER19", "fleet")
+        self.settle(ann)
+        self.assertEqual(self.journal("fleet"), [*finishes("DEN-7"), "FINISH TIE 1 NED80 DEN-7", *finishes("SWE2"),
+                                                 "FINISH TIE 1 GER19 SWE2"])
+        self.need_no_faults()
+
+    def test_one_page_for_both(self) -> None:
+        ann = self.phone_of_both()
         ann.tap("GBR101")
         ann.tap("NED80")
         ann.tap("GBR33", "fleet")
@@ -321,9 +362,9 @@ class Timed(WebTrial):
         self.write(f"[times]\nsystem = tcf\nprogram = {helpers.TIMES}\n", "cup", "times", "rules.ini")
         super().start()
 
-    def started(self) -> Device:
+    def started(self, port: int = 0) -> Device:
         """A phone, after a start at midnight."""
-        ann = self.phone()
+        ann = self.phone(port=port)
         ann.click("#start")
         ann.type("dialog input", "00:00:00")
         ann.choose("at")
@@ -378,8 +419,9 @@ class Timed(WebTrial):
             sue.choose(sure)
         sue.until("document.querySelector('dialog[open]')?.textContent.includes('DEN 5')")
         sue.choose("yes")
-        sue.until("document.querySelector('.missing').textContent.includes('DEN 5')")
-        sue.until("[...document.querySelectorAll('.waits')].some(one => one.textContent.endsWith('in the journal yet: NED 12'))")
+        sue.until("document.querySelector('h3 + .missing').textContent.includes('DEN 5')")
+        self.assertEqual(sue.text("#in-sheet").split("\n"), ["In the sheet, and not in the journal yet:", "", "NED 12 Windhover"])
+        self.assertEqual(sue.texts("h3 + .missing button"), ["GBR 7 Sea Pink", "DEN 5"])
         self.need_no_faults()
 
     def test_a_start_that_is_odd(self) -> None:
@@ -399,6 +441,43 @@ class Timed(WebTrial):
                 ann.click("#start")
         self.settle(ann)
         self.assertIn("GBR101,23:59:59,,", self.text("cup", "times", "race-1.csv"))
+        self.need_no_faults()
+
+    def known(self, phone: Device, sail: str) -> None:
+        """Says on a phone who ?1 was."""
+        phone.click("#list li.unread button")
+        phone.choose("known")
+        phone.tap(sail)
+
+    def test_a_moment_comes_back(self) -> None:
+        """The moment of ? is there again once the finish that says who she was is refused, as the scorer has given her one
+        meanwhile, or dropped; and the page may be loaded again. Whoever she was then has it."""
+        line, unread = self.line(), "document.querySelectorAll('#list li.unread').length"
+        ann, sue = self.started(line.own), self.device("scorer", "Sue")
+        ann.click("#unread")
+        ann.until(f"{unread} === 1")
+        moment = ann.texts("#list li.unread .end b")[0]
+        self.settle(ann)
+        line.cut()
+        ann.until("document.querySelector('#link').dataset.state === 'away'")
+        sue.type("#typed", "finish 1 7 00:00:01")
+        sue.press("Send")
+        sue.until("document.querySelectorAll('.order tbody tr').length === 1")
+        self.known(ann, "GBR7")
+        ann.until(f"{unread} === 0")
+        line.mend()
+        ann.until(f"document.querySelectorAll('#list li.refused').length === 1 && {unread} === 1")
+        ann.reload()
+        ann.until(f"{unread} === 1")
+        self.assertEqual(ann.texts("#list li.unread .end b"), [moment])
+        sue.click("#score")
+        sue.choose("yes")
+        sue.until("!!document.querySelector('#unscore')")
+        for answer, left in (("drop", 1), ("yes", 0)):
+            self.known(ann, "NED12")
+            ann.choose(answer)
+            ann.until(f"!document.querySelector('dialog[open]') && {unread} === {left}")
+        helpers.until("her finish", lambda: f"NED12,00:00:00,{moment}," in self.text("cup", "times", "race-1.csv"))
         self.need_no_faults()
 
     def test_a_sail_that_was_not_read(self) -> None:

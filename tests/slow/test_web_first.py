@@ -43,6 +43,19 @@ class First(NewOffice):
         self.assertEqual(self.journal("herbstpokal"), finishes("GER412"))
         self.need_no_faults()
 
+    def test_ratings(self) -> None:
+        """The page shows each boat's rating, and by corrected time says who has none that the system takes."""
+        scorer = self.device("scorer", "Bea’s laptop")
+        self.upload(scorer, "Meldeliste.csv", b"Sail,Boat,PY\nGBR 101,Kestrel,1050\nGBR 7,Sea Pink,\nNED 12,Windhover,1.05\n")
+        scorer.until("document.querySelectorAll('.boats tbody tr').length === 3")
+        self.assertEqual(scorer.texts(".boats thead th")[4:], ["PY"])
+        self.assertEqual(scorer.texts(".boats tbody td:nth-child(5)"), ["1050", "", "1.05"])
+        scorer.click("#handicap-yes")
+        scorer.type("[name=system]", "py")
+        scorer.until("document.querySelector('#meaning .waits')?.textContent.includes('isn\u2019t a rating')")
+        self.assertRegex(scorer.text("#meaning .waits"), r"row 3: GBR\s7 has no rating[^$]*row 4: NED\s12: 1\.05 isn’t a rating of the system")
+        self.need_no_faults()
+
 
 if __name__ == "__main__":
     unittest.main()

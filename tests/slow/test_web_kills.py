@@ -18,8 +18,10 @@ from unittest import mock
 
 import helpers
 from raceoffice.errors import NotSent, Trouble
+from raceoffice.program.journal import Series
 from raceoffice.series import settings
 from raceoffice.series.folder import Folder
+from raceoffice.corrected.unsent import in_sheet
 from raceoffice.web import new_series, times_sheet
 from raceoffice.web.declarations import Declarations
 from raceoffice.web.gate import Device, Gate
@@ -439,6 +441,37 @@ class Time(Prepared):
         values = {"settings": {"club": "Sailing Club"}, "rounding": "up", "rounding_was": "half-up", "tag": tag_of(text)}
         self.each_step(Sent("SCORER", ("save", "cup"), values), victims=("web",),
                        wanted=("series.ini", "times/rules.ini", "office.log"))
+
+
+@helpers.needs_times
+class Cleared(Prepared):
+    """The jury clears a boat: its CLEAR is sent, and then her time as the scorer's line."""
+
+    def test_cleared(self) -> None:
+        """She had retired after her finish, in a race that counts: 3,900 s x 0.900."""
+        self.serving()
+        self.typed("FINISH TIME 1 GBR101 3600", "FINISH TIME 1 GBR7 3510", "SCORER SCORE 1")
+        counts = [question("correction", race=1)]
+        self.asked([Sent("FINISH", ("line", "cup"), tap_of(1, "MARK 1 GBR7 RET", agreed=counts))])
+        self.settle()
+        self.seen.clear()
+        self.each_step(Sent("JURY", ("line", "cup"), tap_of(2, "CLEAR 1 GBR7", agreed=counts)),
+                       wanted=("times/race-1.csv", "journal.txt"))
+        self.assertEqual(self.seen, {"code", "time", "waits"})
+
+    def setUp(self) -> None:
+        self.seen: set[str] = set()
+        super().setUp()
+
+    def files(self) -> Held:
+        """Looks at what she has, also after each kill: her code, her time, or a row that pages name as one that waits."""
+        found = super().files()
+        race = Series.read(found.get("journal.txt", b"").decode().split("\n")[1:-1]).race(1)
+        ways = {"code": "GBR7" in race.codes, "time": "GBR7" in race.times, "waits": "GBR7" in in_sheet(self.folder, 1)}
+        has = next((name for name, is_so in ways.items() if is_so), "")
+        self.assertNotEqual(has, "")
+        self.seen.add(has)
+        return found
 
 
 class Fresh(helpers.Series):

@@ -201,6 +201,12 @@ class Looking(unittest.TestCase):
         device.until(OPEN)
         yield "why"
         device.choose("ok")
+        device.run(f"localStorage.setItem('tap:{'0' * 30}', JSON.stringify({{class: 'cup', line: 'FINISH 2 {SAILS[9]}', agreed: [],"
+                   " state: 'asked', id: '0', at: Date.now(), clock: {span: '', ahead: 7e6}}))")
+        device.reload()
+        device.click("#link.away")
+        device.until(OPEN)
+        yield "when"
 
     def scorer(self, device: Device) -> Iterator[str]:
         """The scorer's page: a race, corrections, questions, links, the office, a new series."""

@@ -81,6 +81,36 @@ class TimedCorrections(WebTrial):
         helpers.until("her new time", lambda: self.journal()[4:] == ["SCORER STRIKE 1 GBR7", "SCORER TIME 1 GBR7 3120"])
         self.need_no_faults()
 
+    def test_another_rounding(self) -> None:
+        """Another rounding, of a race that counts and of one that doesn't: 3,601.25 s are 3,602 s then. After a No the page
+        names the race whose times weren't sent, and has a button for them; only then all is saved."""
+        for race in (1, 2):
+            self.write(SHEET, "cup", "times", f"race-{race}.csv")
+        self.scorer_of(2, 3)
+        scorer = self.scorer_of(1, 3)
+        scorer.click("#score")
+        scorer.choose("yes")
+        scorer.until("!!document.querySelector('#unscore')")
+        before = len(self.journal())
+        scorer.click("#tab-settings")
+        scorer.until("!!document.querySelector('[name=rounding]')")
+        scorer.type("[name=rounding]", "up")
+        scorer.until("document.querySelectorAll('#retimed li').length === 2")
+        scorer.click("#save")
+        scorer.until("document.querySelector('dialog[open]')?.textContent.includes('Is this a correction?')")
+        self.assertNotIn("saved", scorer.text("#said"))
+        scorer.choose("")
+        scorer.until("document.querySelector('#times-left')?.textContent.includes('Race 1 still has')")
+        self.assertNotIn("saved", scorer.text("#said"))
+        self.assertEqual(self.journal()[before:], ["SCORER STRIKE 2 NED12", "SCORER TIME 2 NED12 3602"])
+        scorer.click("#send-left")
+        scorer.until("document.querySelector('dialog[open]')?.textContent.includes('Is this a correction?')")
+        scorer.choose("yes")
+        scorer.until("!document.querySelector('#times-left') && document.querySelector('#said').textContent === 'The settings are saved.'")
+        self.assertEqual(self.journal()[before + 2:], ["SCORER STRIKE 1 NED12", "SCORER TIME 1 NED12 3602"])
+        self.assertIn("rounding = up\n", self.text("cup", "times", "rules.ini"))
+        self.need_no_faults()
+
     def move(self, scorer: Device, sail: str, race: int) -> None:
         """Says that finishers from a boat on belong to another race."""
         scorer.click("#other-race")
@@ -91,6 +121,26 @@ class TimedCorrections(WebTrial):
 
     def sheet(self, race: int) -> list[str]:
         return self.text("cup", "times", f"race-{race}.csv").splitlines()
+
+    def test_another_race_and_a_no(self) -> None:
+        """After a No, neither sheet has changed: nothing of it is sent by the next tap there."""
+        self.write(SHEET, "cup", "times", "race-2.csv")
+        self.write("Sail,Start,Finish\n", "cup", "times", "race-1.csv")
+        scorer = self.scorer_of(2, 3)
+        scorer.click("#score")
+        scorer.choose("yes")
+        scorer.until("!!document.querySelector('#unscore')")
+        before = [self.sheet(race) for race in (1, 2)]
+        self.move(scorer, "NED12", 1)
+        scorer.until("document.querySelector('dialog[open]')?.textContent.includes('Is this a correction?')")
+        scorer.choose("")
+        scorer.until("!document.querySelector('dialog[open]')")
+        self.assertEqual([self.sheet(race) for race in (1, 2)], before)
+        self.assertEqual([line for line in self.journal() if " 1 " in line], [])
+        self.move(scorer, "NED12", 1)
+        scorer.choose("yes")
+        helpers.until("the other race", lambda: len([line for line in self.journal() if " TIME 1 " in line]) == 3)
+        self.need_no_faults()
 
     def test_another_race(self) -> None:
         """All that was recorded in race 2 goes to race 1 with its times, its start and its codes, and nothing of it stays."""

@@ -5,7 +5,6 @@ With PICTURES=FOLDER the pictures of the guide are written there.
 """
 from __future__ import annotations
 
-import datetime
 import os
 import re
 import signal
@@ -16,7 +15,7 @@ import unittest
 import helpers
 from devices import Device
 from screens import shrink
-from web_office import NewOffice
+from web_office import NewOffice, zone_of_afternoon
 
 CUP = """Boat;Sail;Helm
 Kestrel;GBR 101;A. Moss
@@ -58,12 +57,6 @@ STANDING = """[...document.querySelectorAll(".standing tbody tr")].map(row => [
 # Words of buttons that are cut off, as the start by the clock might be
 CUT_OFF = """[...document.querySelectorAll("#acts button, .boat small")]
   .filter(part => part.scrollWidth > part.clientWidth || part.scrollHeight > part.clientHeight).map(part => part.textContent)"""
-
-
-def zone_of_afternoon() -> str:
-    """A time zone in which it is between two and three o'clock in the afternoon."""
-    east = 14 - datetime.datetime.now(datetime.timezone.utc).hour
-    return f"Etc/GMT{-east:+d}" if east else "Etc/GMT"
 
 
 def guide() -> str:

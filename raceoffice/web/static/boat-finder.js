@@ -7,13 +7,13 @@ import {called} from "./desk.js";
 const MOST = 60;
 const plain = words => words.replace(/\s/g, "").toLowerCase();
 
-// Gives the sail, or "" if none was chosen.
-export function findBoat(title, sails, hint = "") {
+// Gives the sail of a boat of a class, or "" if none was chosen.
+export function findBoat(name, title, sails, hint = "") {
   return new Promise(done => {
     const end = value => { box.close(); box.remove(); done(value); };
     const found = element("div", {class: "missing"});
-    const show = () => fill(found, sails.filter(sail => plain(called(sail)).includes(plain(field.value))).slice(0, MOST)
-      .map(sail => element("button", {type: "button", "data-key": sail, "data-sail": sail, onclick: () => end(sail)}, called(sail))));
+    const show = () => fill(found, sails.filter(sail => plain(called(sail, name)).includes(plain(field.value))).slice(0, MOST)
+      .map(sail => element("button", {type: "button", "data-key": sail, "data-sail": sail, onclick: () => end(sail)}, called(sail, name))));
     const takeFirst = event => {
       if (event.key !== "Enter") return;
       event.preventDefault();

@@ -20,8 +20,9 @@ export function linesOfSwap(race, number, one, other) {
   const place = groupOf(race, first), level = race.order[place].find(sail => sail !== first);
   const next = race.order[place + 1][0];
   // The first takes the second's place; the second goes to where the first was: level with those that were level
-  // with her, or ahead of those that were next.
-  const back = level ? `TIE ${number} ${second} ${level}` : `BEFORE ${number} ${second} ${next === second ? first : next}`;
+  // with her, or ahead of those that were next, and of the places kept between.
+  const gap = race.unread.find(({after}) => after === place + 1), ahead = [next === second ? first : next, ...gap ? [gap.mark] : []];
+  const back = level ? `TIE ${number} ${second} ${level}` : `BEFORE ${number} ${second} ${ahead.join(" ")}`;
   return [`STRIKE ${number} ${first}`, `TIE ${number} ${first} ${second}`, `STRIKE ${number} ${second}`, back];
 }
 

@@ -1,5 +1,6 @@
 'use strict';
-// What the scorer's and the jury's page share: their classes, what the office shows of each, and lines.
+// What the scorer's and the jury's page share: their classes, what the office shows of each, and lines. What somebody does
+// is about the class that was shown then, so it has that class by name to its end.
 import {byId, element, fill} from "./elements.js";
 import {languageField, loadTexts, text} from "./texts.js";
 import {comeIn, followNews, me, stateFollower} from "./office.js";
@@ -11,22 +12,14 @@ const states = {};
 export let here = "";
 let drawing = () => {}, link = "away";
 
-export const state = () => states[here];
-export const boatOf = sail => state()?.boats.find(boat => boat[0] === sail);
-export const path = what => `${what}/${encodeURIComponent(here)}`;
-export const send = (line, more) => sendLine(here, line, state().entries, more);
-
-// A class by its name, if there are several; "" otherwise
-export function groupOf(name) {
-  return me?.classes.length > 1 ? me.classes.find(one => one.class === name)?.group ?? "" : "";
-}
-
-// What is asked, with the class that it is about if there are several
-export const withClass = (words, name = here) => [groupOf(name), words].filter(Boolean).join(": ");
+// What the office shows of a class: of the one on the page, if none is named
+export const state = (name = here) => states[name];
+export const boatOf = (sail, name = here) => state(name)?.boats.find(boat => boat[0] === sail);
+export const send = (name, line, more) => sendLine(name, line, state(name)?.entries ?? 0, more);
 
 // A boat by her sail and name
-export function called(sail) {
-  const boat = boatOf(sail);
+export function called(sail, name = here) {
+  const boat = boatOf(sail, name);
   return [spaced(sail), boat?.[1] || boat?.[2]].filter(Boolean).join(" ");
 }
 
@@ -34,7 +27,7 @@ export function emptyRace() {
   return {counts: false, order: [], codes: {}, penalties: {}, redress: {}, at: {}, by: {}, unread: [], times: {}};
 }
 
-export const raceNumbered = number => ({...emptyRace(), ...state()?.races[number]});
+export const raceNumbered = (name, number) => ({...emptyRace(), ...state(name)?.races[number]});
 
 // What a boat holds in a race: her code, penalties and redress
 export function heldIn(race, sail) {
@@ -44,8 +37,8 @@ export function heldIn(race, sail) {
 export const isIn = (race, sail) => race.order.some(group => group.includes(sail));
 
 // The boats of which a race has neither a place nor a code
-export function missingFrom(race) {
-  return state().boats.map(boat => boat[0]).filter(sail => !isIn(race, sail) && !race.codes[sail]);
+export function missingFrom(name, race) {
+  return state(name).boats.map(boat => boat[0]).filter(sail => !isIn(race, sail) && !race.codes[sail]);
 }
 
 function chooseClass(name) {

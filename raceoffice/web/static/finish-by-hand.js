@@ -5,9 +5,8 @@ import {text} from "./texts.js";
 import {choose, say} from "./dialogs.js";
 import {remarkSentences} from "./remark-words.js";
 import {saidWords} from "./said-words.js";
-import {sendLine} from "./sending.js";
 import {CODES, spaced} from "./sails.js";
-import {state} from "./desk.js";
+import {send} from "./desk.js";
 
 const CLOCK = /^([01]\d|2[0-3]):[0-5]\d:[0-5]\d$/;
 
@@ -56,7 +55,7 @@ export async function correctByHand(name, race, row) {
   if (!given) return false;
   const agreed = [];
   for (const line of linesFor(race, row, given)) {
-    const sent = await sendLine(name, line, state()?.entries ?? 0, {agreed});
+    const sent = await send(name, line, {agreed});
     if (!sent || sent.outcome === "refused") break;
     say(saidWords(sent.said).slice(0, 3).join("\n") || text("times.saved"));
   }

@@ -45,11 +45,11 @@ function undoWords(line) {
   return text("finish.undoWhat", {what: ["MARK", "PENALTY"].includes(command) ? `${what} ${code}` : what});
 }
 
-// The finisher who was tapped last, of all classes
+// The last finisher of all classes. One without a moment finished no earlier than those ahead of her.
 function lastFinisher() {
   const found = sailing().filter(one => !isTimed(one.class)).map(one => {
-    const race = raceNow(one.class), sail = lastBoat(race);
-    return {class: one.class, sail, at: race.at[sail] ?? 0};
+    const race = raceNow(one.class);
+    return {class: one.class, sail: lastBoat(race), at: Math.max(...race.order.flat().map(sail => race.at[sail] ?? 0))};
   });
   return found.filter(one => one.sail).sort((one, other) => other.at - one.at)[0];
 }

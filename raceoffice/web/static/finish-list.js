@@ -1,14 +1,13 @@
 'use strict';
 // The finishers so far, the newest at the end: each with her place, her time, and how far her tap has come.
 import {byId, element, fill} from "./elements.js";
-import {ordinal, text, timeOfDay} from "./texts.js";
+import {ordinal, text} from "./texts.js";
 import {me} from "./office.js";
 import {choose} from "./dialogs.js";
 import {kindOf, spaced} from "./sails.js";
 import {refusalOf} from "./questions.js";
 import {duration, finishers, heldBy} from "./race-view.js";
-import {askedItem, boatNamed, isHere, named, page, queue, raceNow, shownLine} from "./finish-state.js";
-import {answer} from "./finish-answers.js";
+import {answer, askedItem, boatNamed, clock, isHere, named, page, queue, raceNow, shownLine} from "./finish-state.js";
 import {askFinisher, askStrike, askUnread, buzz} from "./finish-taps.js";
 
 // Milliseconds of a long press, and pixels of a swipe to the left
@@ -57,13 +56,13 @@ function boatRow(one, place, race, row) {
       element("span", {class: "place", "aria-label": row.place ? ordinal(row.place) : text("finish.noPlace")},
         row.place || "–", row.isTied && row.place ? element("sup", {}, "=") : null),
       element("span", {class: "sail"}, spaced(sail)), element("span", {class: "name"}, names, codes),
-      element("span", {class: "end"}, element("b", {}, timeWords(race, row)), progress(state, race.by[sail], race.waiting?.includes(sail)))));
+      element("span", {class: "end"}, element("b", {}, timeWords(one.class, race, row)), progress(state, race.by[sail], race.waiting?.includes(sail)))));
 }
 
 // Her elapsed time where that is known, or else the time of day
-function timeWords(race, row) {
+function timeWords(name, race, row) {
   const seconds = race.elapsed?.[row.sail];
-  return typeof seconds === "number" ? duration(seconds) : timeOfDay(row.at);
+  return typeof seconds === "number" ? duration(seconds) : clock(name, row.at);
 }
 
 // How far a tap has come
@@ -83,7 +82,7 @@ function unreadRow(name, row) {
     element("button", {type: "button", class: "finisher", onclick: () => gap.mark !== "?" && askUnread(name, gap.mark)},
       element("span", {class: "place", "aria-label": ordinal(row.place)}, row.place), element("span", {class: "sail"}, gap.mark),
       element("span", {class: "name"}, text("finish.notRead")),
-      element("span", {class: "end"}, element("b", {}, timeOfDay(gap.at)), element("i", {}, words))));
+      element("span", {class: "end"}, element("b", {}, clock(name, gap.at)), element("i", {}, words))));
 }
 
 function refusedRow(item) {
@@ -92,7 +91,7 @@ function refusedRow(item) {
     element("button", {type: "button", class: "finisher", onclick: () => showRefused(item)},
       element("span", {class: "place", "aria-hidden": "true"}, "✕"), element("span", {class: "sail"}, sail ? named(item.class, sail) : item.line),
       element("span", {class: "name"}, refusalOf(item.answer, item.words)),
-      element("span", {class: "end"}, element("b", {}, timeOfDay(item.at)), element("i", {}, !number || isHere(item) ? text("finish.refused") : `${text("common.race")} ${number}`))));
+      element("span", {class: "end"}, element("b", {}, clock(item.class, item.at)), element("i", {}, !number || isHere(item) ? text("finish.refused") : `${text("common.race")} ${number}`))));
 }
 
 async function showRefused(item) {

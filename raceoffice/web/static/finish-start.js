@@ -1,30 +1,29 @@
 'use strict';
 // The start of a race by corrected time: now, or a time of the clock.
 import {element} from "./elements.js";
-import {now} from "./office.js";
 import {text} from "./texts.js";
 import {choose} from "./dialogs.js";
-import {addTap, page, raceNow} from "./finish-state.js";
+import {addTap, clock, page, raceNow} from "./finish-state.js";
 
 // Asks for the start until it is one.
 export async function askStart(name) {
   for (let wrong = null;;) {
-    const field = element("input", {type: "time", step: "1", "aria-label": text("finish.startTime"), value: raceNow(name).start});
+    const was = raceNow(name).start, field = element("input", {type: "time", step: "1", "aria-label": text("finish.startTime"), value: was});
     const done = await choose(text("finish.startOf", {number: page.races[name]}), [element("label", {class: "field"}, text("finish.startTime"), field), wrong], [
       {value: "", label: text("common.cancel")}, {value: "at", label: text("finish.startAt")}, {value: "now", label: text("finish.startNow"), look: "main"}]);
-    if (done === "now") addTap(name, "START #");
+    if (done === "now") addTap(name, "START #", {was});
     if (done !== "at") return;
     if (field.value) {
-      if (await isMeant(field.value)) addTap(name, `START # ${field.value}`);
+      if (await isMeant(name, field.value)) addTap(name, `START # ${field.value}`, {was});
       return;
     }
     wrong = element("p", {class: "wrong", role: "alert"}, text("finish.startHow"));
   }
 }
 
-// Whether a start is meant that the clock of this device hasn't come to
-async function isMeant(start) {
-  const clock = new Date(now()).toTimeString().slice(0, 8);
-  return start <= clock || await choose(text("finish.startAhead", {now: clock, start}), [],
+// Whether a start is meant that the clock of the series hasn't come to
+async function isMeant(name, start) {
+  const now = clock(name);
+  return start <= now || await choose(text("finish.startAhead", {now, start}), [],
     [{value: "", label: text("common.no")}, {value: "yes", label: text("common.yes"), look: "main"}]) === "yes";
 }

@@ -1,7 +1,8 @@
 'use strict';
 // What the finish page knows: its classes, which race of each it records, and what somebody is about to tap.
-import {newId, now} from "./office.js";
-import {text} from "./texts.js";
+import {followClock, moment, newId, now, settle} from "./office.js";
+import {text, timeOfDay} from "./texts.js";
+import {isOpen} from "./dialogs.js";
 import {spaced} from "./sails.js";
 import {atTheLine, isIn, lineThatUndoes, withTaps} from "./race-view.js";
 import {Queue} from "./queue.js";
@@ -28,7 +29,19 @@ export const page = {
   moments: kept("moments", []).filter(one => now() - one.at < DAY),
   mode: {kind: "finish"}, digits: "", link: "away", redraw: () => {}};
 
-export const queue = new Queue(item => { forgetIfShown(item); page.redraw(); });
+export const queue = new Queue(item => {
+  forgetIfShown(item);
+  // It is there before somebody answers without a connection.
+  if (item.state === "asked") import("./finish-answers.js").catch(() => {});
+  // What is refused, or dropped, says of no moment whose it was.
+  if (queue.find(item.id) ? item.state === "refused" : item.state !== "gone") undoMoment(item);
+  page.redraw();
+});
+
+followClock(() => {
+  for (const item of queue.items) if (settle(item)) queue.change(item, {});
+  if (page.moments.filter(settle).length) keepMoments(page.moments);
+});
 
 export const isWaiting = item => item.state === "unsent" || item.state === "sending";
 
@@ -75,7 +88,7 @@ function keepMoments(moments) {
 }
 
 export function addMoment(name) {
-  const one = {id: newId(), class: name, race: page.races[name], mark: `?${momentsOf(name).length + 1}`, at: now()};
+  const one = {id: newId(), class: name, race: page.races[name], mark: `?${momentsOf(name).length + 1}`, ...moment()};
   noteUndoable({id: one.id, class: name, line: `? ${one.race}`});
   keepMoments([...page.moments, one]);
 }
@@ -83,7 +96,7 @@ export function addMoment(name) {
 // Whose a moment was, by a line; nobody's without one
 export function endMoment(name, mark, line) {
   const found = momentsOf(name).find(one => one.mark === mark);
-  found.by = line ? addTap(name, line, {at: found.at}).id : "-";
+  found.by = line ? addTap(name, line, {at: found.at, clock: found.clock}).id : "-";
   keepMoments(page.moments);
 }
 
@@ -98,6 +111,9 @@ export function undoMoment({id}) {
 export function isTimed(name) {
   return page.states[name]?.handicap === true;
 }
+
+// A moment by the clock of a class
+export const clock = (name, at = now()) => timeOfDay(at, page.states[name]?.zone);
 
 // The classes of which a race is being recorded
 export const sailing = () => page.classes.filter(one => page.races[one.class]);
@@ -151,6 +167,12 @@ export function setDigits(digits) {
 // The item that the office asks about: the first, or that of a boat
 export function askedItem(sail = "") {
   return queue.items.find(item => item.state === "asked" && (!sail || item.line.split(" ")[2] === sail));
+}
+
+// Asks somebody what the office asks about an item, if no other window is open.
+export async function answer(item) {
+  const {ask} = await import("./finish-answers.js");
+  if (item.state === "asked" && !isOpen()) ask(item);
 }
 
 // What is wrong, in a word or two for the sign at the top

@@ -2,11 +2,9 @@
 // The finish page: a tap is a finisher. What it shows is the office's race with the taps of this device that are
 // still on their way.
 import {byId, fill} from "./elements.js";
-import {loadTexts, text, timeOfDay} from "./texts.js";
-import {isOpen} from "./dialogs.js";
-import {comeIn, countUnsentBy, followNews, me, now, stateFollower} from "./office.js";
-import {LATE, askedItem, forgetIfShown, isWaiting, keep, kept, page, queue} from "./finish-state.js";
-import {answer} from "./finish-answers.js";
+import {loadTexts, text} from "./texts.js";
+import {comeIn, countUnsentBy, followNews, me, stateFollower} from "./office.js";
+import {LATE, answer, askedItem, clock, forgetIfShown, isWaiting, keep, kept, page, queue} from "./finish-state.js";
 import {lastTapAt} from "./finish-taps.js";
 import {drawGrid} from "./finish-grid.js";
 import {drawList} from "./finish-list.js";
@@ -87,11 +85,11 @@ function nameParts() {
 // A question comes over the boats once nobody has tapped for a while; the list and the sign at the top open it
 // sooner.
 function askWhenCalm() {
-  if (askedItem() && !isOpen() && performance.now() - lastTapAt() > CALM) answer(askedItem());
+  if (askedItem() && performance.now() - lastTapAt() > CALM) answer(askedItem());
 }
 
 function keepTime() {
-  setInterval(() => fill(byId("clock"), timeOfDay(now())), CLOCK);
+  setInterval(() => fill(byId("clock"), [...new Set(page.classes.map(one => clock(one.class)))].join(" ")), CLOCK);
   setInterval(() => { if (queue.items.some(isWaiting)) draw(); }, LATE / 2);
   setInterval(askWhenCalm, QUESTIONS);
 }
@@ -122,7 +120,7 @@ async function begin() {
   queue.send();
   draw();
   keepTime();
-  byId("link").onclick = () => { if (askedItem() && !isOpen()) answer(askedItem()); };
+  byId("link").onclick = () => { if (askedItem()) answer(askedItem()); };
   addEventListener("beforeunload", event => { if (queue.unsent.length) event.preventDefault(); });
   stayAwake();
 }

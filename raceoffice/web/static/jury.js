@@ -6,10 +6,10 @@ import {ask, newId} from "./office.js";
 import {say} from "./dialogs.js";
 import {kindOf, spaced} from "./sails.js";
 import {saidWords} from "./said-words.js";
-import {agrees, isTriedAgain, told} from "./sending.js";
+import {addressOf, agrees, sendAsking, told} from "./sending.js";
 import {agreedOf} from "./questions.js";
 import {remarkSentences, troubleWords} from "./remark-words.js";
-import {beginDesk, called, drawClasses, here, path, send, state} from "./desk.js";
+import {beginDesk, called, drawClasses, here, send, state} from "./desk.js";
 import {findBoat} from "./boat-finder.js";
 import {lastChange, standingTable} from "./standing.js";
 import {LINES, OTHERS, headOf, heldDecisions, isOther, lineOf, takesOf, usualOf, whatOf} from "./jury-decisions.js";
@@ -50,7 +50,7 @@ const given = () => ({line: wanted(), out: form.out !== "", note: form.note});
 async function preview() {
   const line = wanted(), mine = ++asked;
   if (!line) return;
-  const found = await ask(path(isKept() ? "ruling" : "preview"), isKept() ? given() : {line}, LONG);
+  const found = await ask(addressOf(isKept() ? "ruling" : "preview", form.class), isKept() ? given() : {line}, LONG);
   if (mine !== asked) return;
   const refused = found.status === 200 ? found.refused && remarkSentences(found.refused).join(" ") : troubleWords(found);
   shown = found.status === 200 ? {...found, refused, line} : {refused, line};
@@ -58,42 +58,31 @@ async function preview() {
 }
 
 async function sendDecision() {
-  const line = wanted();
+  const line = wanted(), name = form.class, {asked: questions = [], lines, tag} = shown ?? {};
   if (shown?.line !== line) return;
-  if (shown.entries !== state().entries) {
+  if (shown.entries !== state(name).entries) {
     say(text("jury.lookAgain"));
     preview();
     return;
   }
-  for (const question of shown.asked ?? []) if (await agrees(question) !== "yes") return;
-  const agreed = (shown.asked ?? []).map(agreedOf);
-  const done = isKept() ? await decide(agreed) : await send(line, {agreed});
+  const kept = isKept() && {...given(), lines, tag};
+  for (const question of questions) if (await agrees(name, question) !== "yes") return;
+  const agreed = questions.map(agreedOf), done = kept ? await decide(name, {...kept, agreed}) : await send(name, line, {agreed});
   if (!done || done.outcome === "refused") return;
   say(saidWords(done.said).slice(0, 3).join("\n") || text("jury.kept"));
-  nothing();
+  if (form.class === name && wanted() === line) nothing();
 }
 
-// A decision without a line of its own: it is kept if it still comes to what was shown. What the office asks is
-// asked here, and the same is sent again until there is an answer. Gives what was said of its lines, or null if it
-// wasn't sent.
-async function decide(agreed) {
-  const id = newId(), kept = given(), {lines, tag} = shown;
-  for (let tries = 0; ; ) {
-    const done = await ask(path("decide"), {...kept, id, lines, tag, agreed}, LONG);
-    if (done.status === 200) return told(done.done.at(-1), done.done.flatMap(one => one.said));
-    if (done.status === 409) {
-      if (await agrees(done.question, done.said) !== "yes") return null;
-      agreed.push(agreedOf(done.question));
-    } else if (!await isTriedAgain(done.status, tries++)) {
-      say(troubleWords(done), true);
-      return null;
-    }
-  }
+// A decision without a line of its own: it is kept if it still comes to what was shown. Gives what was said of its lines, or
+// null if it wasn't sent.
+async function decide(name, kept) {
+  const came = await sendAsking("decide", name, {id: newId(), ...kept}, {patience: LONG});
+  return came && told(came.done.at(-1), came.done.flatMap(one => one.said));
 }
 
 async function chooseBoat() {
-  const sail = await findBoat(text("jury.whichBoat"), state().boats.map(boat => boat[0]));
-  if (sail) change({sail});
+  const name = form.class, sail = await findBoat(name, text("jury.whichBoat"), state().boats.map(boat => boat[0]));
+  if (sail && form.class === name) change({sail});
 }
 
 function decisionButton(what) {

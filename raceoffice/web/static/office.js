@@ -10,16 +10,67 @@ export let me = null;
 // the clock is learnt; after how long without a sign of life a connection is taken for dead; and until a state is asked for
 // again if nobody answered.
 const PATIENCE = 8000, SLOWER = 50, SILENT = 12000, LOOK = 3000, AGAIN = 1000;
+// Milliseconds by which this device's clock and the time that passes may part until it counts as set, and by which
+// what was learnt of the office's clock at two times may differ if nobody has set this one in between
+const SET = 500, ALIKE = 1000, CLOCK = "clock";
 
-let clockAhead = 0, quickest = Infinity, unsentCount = () => 0, unsentHeard = 0;
-
-// The time by the office's clock: taps of several devices are compared by it.
-export function now() {
-  return Date.now() + clockAhead;
-}
+let unsentCount = () => 0, unsentHeard = 0, learnt = () => {};
 
 export function newId() {
   return [...crypto.getRandomValues(new Uint8Array(16))].map(byte => byte.toString(16).padStart(2, "0")).join("");
+}
+
+// When this page began, by the device's clock as it is set now
+const origin = () => Date.now() - performance.now();
+
+// By how much the office's clock is ahead of this device's, and how long the answer took from which that was learnt. It is
+// kept on the device. `span` names the time since the clock was last set, or the device slept: they look alike. `isKnown`
+// says whether the office was heard in it.
+const clock = {ahead: 0, took: Infinity, ...keptClock(), origin: origin(), span: newId(), isKnown: false};
+
+function keptClock() {
+  try { return JSON.parse(localStorage.getItem(CLOCK)); } catch { return null; }
+}
+
+// Sees whether the clock was set, or the device slept. Sleep only puts it forward.
+function lookAtClock() {
+  const by = origin() - clock.origin;
+  if (Math.abs(by) < SET) return;
+  clock.ahead -= Math.min(by, 0);
+  Object.assign(clock, {origin: origin(), span: newId(), isKnown: false});
+}
+
+export function isClockKnown() {
+  lookAtClock();
+  return clock.isKnown;
+}
+
+// The time by the office's clock: taps of several devices are compared by it.
+export function now() {
+  lookAtClock();
+  return Date.now() + clock.ahead;
+}
+
+// This moment: `at` by the office's clock, and `clock` if that isn't sure, since the office wasn't heard in this span.
+export function moment() {
+  const at = now(), {span, ahead} = clock;
+  return clock.isKnown ? {at} : {at, clock: {span, ahead}};
+}
+
+// What a moment is if the clock was set before it, and not since
+export const momentNow = one => one.at + clock.ahead - one.clock.ahead;
+
+// Makes a moment sure, if the office was heard in its span, or has the same clock as before it; whether it did.
+export function settle(one) {
+  if (!one.clock || one.clock.span !== clock.span && Math.abs(clock.ahead - one.clock.ahead) > ALIKE) return false;
+  one.at = momentNow(one);
+  delete one.clock;
+  return true;
+}
+
+// Calls `done` whenever the office's clock was learnt.
+export function followClock(done) {
+  learnt = done;
 }
 
 // Says how the taps that wait on this device are counted: the office shows the scorer how many there are.
@@ -27,16 +78,22 @@ export function countUnsentBy(count) {
   unsentCount = count;
 }
 
-function learnClock(officeTime, askedAt) {
-  const took = Date.now() - askedAt;
-  if (!officeTime || took > quickest + SLOWER) return;
-  quickest = took;
-  clockAhead = Math.round(officeTime - (askedAt + took / 2));
+// Learns from an answer that was asked for at a moment of performance.now(). A quick one is exact. So is one after which
+// what is known can't be: one of both clocks was set.
+function learnClock(officeTime, asked, span) {
+  const took = performance.now() - asked, ahead = Math.round(officeTime + took / 2 - Date.now());
+  isClockKnown();
+  if (!officeTime || span !== clock.span) return;
+  const isSet = Math.abs(ahead - clock.ahead) > (took + clock.took) / 2 + SLOWER;
+  if (isSet || took <= clock.took + SLOWER) Object.assign(clock, {ahead, took});
+  clock.isKnown = true;
+  try { localStorage.setItem(CLOCK, JSON.stringify({ahead: clock.ahead, took: clock.took})); } catch { /* no room */ }
+  learnt();
 }
 
-// Says how many taps wait, if the office has last heard of another number.
+// Says how many taps wait, if the office has last heard of another number, and hears what time it is.
 function tellUnsent() {
-  if (unsentHeard !== unsentCount()) ask("me");
+  if (unsentHeard !== unsentCount() || !isClockKnown()) ask("me");
 }
 
 function fieldsOf(body, unsent) {
@@ -46,7 +103,8 @@ function fieldsOf(body, unsent) {
 
 // Asks the office, and gives {status, ..values}. Status 0: nobody answered.
 export async function ask(path, body, patience = PATIENCE) {
-  const askedAt = Date.now(), stop = new AbortController(), unsent = unsentCount();
+  lookAtClock();
+  const asked = performance.now(), {span} = clock, stop = new AbortController(), unsent = unsentCount();
   const timer = setTimeout(() => stop.abort(), patience);
   try {
     const answer = await fetch(path.startsWith("/") ? path : `/office/${role}/${path}`, {
@@ -54,7 +112,7 @@ export async function ask(path, body, patience = PATIENCE) {
       body: body === undefined ? undefined : JSON.stringify(body)});
     unsentHeard = unsent;
     const values = await answer.json();
-    learnClock(values.now, askedAt);
+    learnClock(values.now, asked, span);
     return Array.isArray(values) ? {list: values, status: answer.status} : {...values, status: answer.status};
   } catch {
     return {status: 0, words: text("common.notReached")};
@@ -81,6 +139,8 @@ export async function comeIn() {
 // live, away, or out if this device isn't let in any more.
 export function followNews(seen, told) {
   let source = null, heard = 0;
+  // A clock that was put back isn't waited for.
+  const silence = () => Math.abs(Date.now() - heard);
   const alive = () => { heard = Date.now(); told("live"); };
   const failed = async () => {
     told("away");
@@ -96,14 +156,14 @@ export function followNews(seen, told) {
   };
   const lookAgain = () => {
     // A connection may be dead without anybody having said so.
-    if (Date.now() - heard < SILENT && source.readyState !== EventSource.CLOSED) return;
+    if (silence() < SILENT && source.readyState !== EventSource.CLOSED) return;
     told("away");
     open();
   };
   open();
   setInterval(lookAgain, LOOK);
   addEventListener("online", open);
-  document.addEventListener("visibilitychange", () => { if (!document.hidden && Date.now() - heard > SILENT / 2) open(); });
+  document.addEventListener("visibilitychange", () => { if (!document.hidden && silence() > SILENT / 2) open(); });
 }
 
 // Gives a function for news, which has the versions of all classes. It asks for one state at a time, so that an

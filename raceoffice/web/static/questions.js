@@ -14,10 +14,10 @@ const VARIANTS = {
   "announce": values => values.state === "final" ? "" : `.${values.state}`,
   "take-over": values => values.since ? ".since" : "",
   "abandon": values => values.lines.length ? "" : ".places",
-  "others-recorded": values => (values.others.length ? "" : ".changed") + (values.ahead ? ".ahead" : ""),
+  "others-recorded": values => (values.others.length ? "" : ".changed") + (values.ahead ? ".ahead" : "") + (values.untimed?.length ? ".untimed" : ""),
 };
 // Values that are sails, and those whose number chooses between one and several
-const SAILS = ["sail", "sails", "near", "others", "ahead"];
+const SAILS = ["sail", "sails", "near", "others", "ahead", "untimed"];
 const COUNTED = ["marks", "sails", "others"];
 
 const spacedAll = value => Array.isArray(value) ? value.map(spaced) : spaced(value);

@@ -3,12 +3,14 @@
 // sent in order within its class, and goes when the office has answered it and its race shows it: until then a
 // page that is loaded again without a connection needs it. Its identity stays the same however often it is sent:
 // the office does it once.
-import {ask, newId, now} from "./office.js";
+import {ask, comeIn, isClockKnown, moment, newId} from "./office.js";
 import {loadRest} from "./texts.js";
 import {troubleOf} from "./questions.js";
 
 const PREFIX = "tap:";
 const WAITING = ["unsent", "sending", "asked"];
+// The lines of which the moment matters
+const TIMED = /^(FINISH|\?) |^START \d+$/;
 // Milliseconds until a tap is tried again: 0.5 s, 1 s, ... 5 s
 const pauseAfter = tries => Math.min(5000, 500 * 2 ** tries);
 
@@ -57,7 +59,7 @@ export class Queue {
   }
 
   add(values) {
-    const item = {id: newId(), at: now(), agreed: [], state: "unsent", key: newKey(), ...values};
+    const item = {id: newId(), ...moment(), agreed: [], state: "unsent", key: newKey(), ...values};
     this.items.push(item);
     this.keep(item);
     this.told(item);
@@ -102,13 +104,25 @@ export class Queue {
     }
   }
 
+  // Whether the moment of an item is known, once the office was heard. If the clock was set since, somebody is asked.
+  async isMomentKnown(item) {
+    if (!item.clock || !TIMED.test(item.line)) return true;
+    if (!isClockKnown()) await comeIn();
+    if (!item.clock || !this.items.includes(item)) return true;
+    if (isClockKnown()) this.change(item, {state: "asked"});
+    else this.answered(item, {status: 0});
+    return false;
+  }
+
   // Sends one item; whether the next may follow.
   async sendItem(item) {
+    if (!await this.isMomentKnown(item)) return false;
+    // Somebody may have dropped it meanwhile, here and below.
+    if (!this.items.includes(item)) return true;
     // From now on the office may have taken it, whatever becomes of the answer.
     this.change(item, {state: "sending", isSent: true});
-    const {id, line, at, seen, behind, agreed, by_clock, undoes} = item;
-    const said = await ask(`line/${encodeURIComponent(item.class)}`, {id, line, at, seen, behind, agreed, by_clock, undoes});
-    // Somebody may have dropped it meanwhile.
+    const {id, line, at, seen, behind, agreed, by_clock, undoes, was} = item;
+    const said = await ask(`line/${encodeURIComponent(item.class)}`, {id, line, at, seen, behind, agreed, by_clock, undoes, was});
     return !this.items.includes(item) || this.answered(item, said);
   }
 

@@ -65,7 +65,7 @@ function followFinisher(race, item, state) {
   if (command === "FINISH") race.order.push([sail]);
   else if (command === "TIE") race.order[place].push(sail);
   else race.order.splice(place, 0, [sail]);
-  race.at[sail] = item.at;
+  race.at[sail] = item.undoes ? race.at[sail] : {FINISH: item.at, TIE: race.at[other]}[command];
   race.unsent[sail] = state;
 }
 

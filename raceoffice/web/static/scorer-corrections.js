@@ -1,10 +1,10 @@
 'use strict';
-// The scorer's corrections by pointing: what can be done about a boat of a race.
+// The scorer's corrections by pointing: what can be done about a boat of a class in a race.
 import {element} from "./elements.js";
 import {text} from "./texts.js";
 import {choose, say} from "./dialogs.js";
 import {CODES, PENALTIES, spaced} from "./sails.js";
-import {called, heldIn, here, isIn, missingFrom, raceNumbered, send, state} from "./desk.js";
+import {called, heldIn, isIn, missingFrom, raceNumbered, send, state} from "./desk.js";
 import {correctByHand} from "./finish-by-hand.js";
 import {saidWords} from "./said-words.js";
 import {findBoat} from "./boat-finder.js";
@@ -13,9 +13,15 @@ import {linesOfLevel, linesOfMove, linesOfSwap} from "./corrections.js";
 
 const cancel = () => ({value: "", label: text("common.cancel")});
 
+// The start that this page shows of a race that is given one
+function startShown(name, words) {
+  const number = /^\s*start\s+(\d+)/i.exec(words)?.[1];
+  return number ? {was: state(name).races[number]?.sheet?.start ?? ""} : {};
+}
+
 // Sends a line, and says what the office said of it.
-export async function line(words, more) {
-  const done = await send(words, more);
+export async function line(name, words, more) {
+  const done = await send(name, words, {...startShown(name, words), ...more});
   if (done && done.outcome !== "refused") say(saidWords(done.said).slice(0, 2).join("\n"));
   return done;
 }
@@ -24,91 +30,91 @@ export async function line(words, more) {
 const hasFinished = (race, sail) => isIn(race, sail) || Boolean(race.sheet?.rows[sail]?.finish || race.sheet?.rows[sail]?.elapsed);
 
 // Times make the order of a class by corrected time: no boat is put ahead of another, or level.
-function placesOf(race, sail) {
-  if (state().handicap) return [["time", "scorer.herTime"], ...(hasFinished(race, sail) ? [["strike", "scorer.strikeHer", "bad"]] : [])];
+function placesOf(name, race, sail) {
+  if (state(name).handicap) return [["time", "scorer.herTime"], ...(hasFinished(race, sail) ? [["strike", "scorer.strikeHer", "bad"]] : [])];
   const there = [["ahead", "finish.insertAhead"], ["level", "finish.insertLevel"], ["move", "scorer.moveHer"], ["swap", "scorer.swapHer"],
     ["strike", "scorer.strikeHer", "bad"]];
   const away = [["last", "scorer.finishedLast"], ["into", "scorer.finishedAhead"]];
   return isIn(race, sail) ? there : away;
 }
 
-function choicesOf(race, sail, held) {
-  return [...placesOf(race, sail), ["code", "finish.codeOrPenalty"], ...(held.length ? [["clear", "scorer.clearHer", "bad"]] : [])]
+function choicesOf(name, race, sail, held) {
+  return [...placesOf(name, race, sail), ["code", "finish.codeOrPenalty"], ...(held.length ? [["clear", "scorer.clearHer", "bad"]] : [])]
     .map(([value, key, look]) => ({value, label: text(key), look}));
 }
 
 // Asks what is to be done about a boat, and does it.
-export async function correct(number, sail) {
-  const race = raceNumbered(number), held = heldIn(race, sail);
-  const done = await choose(text("scorer.boatInRace", {boat: called(sail), number}), held.length ? text("scorer.sheHolds", {held}) : "",
-    [...choicesOf(race, sail, held), cancel()], "stack");
+export async function correct(name, number, sail) {
+  const race = raceNumbered(name, number), held = heldIn(race, sail);
+  const done = await choose(text("scorer.boatInRace", {boat: called(sail, name), number}), held.length ? text("scorer.sheHolds", {held}) : "",
+    [...choicesOf(name, race, sail, held), cancel()], "stack");
   const single = {strike: `STRIKE ${number} ${sail}`, clear: `CLEAR ${number} ${sail}`, last: `FINISH ${number} ${sail}`}[done];
-  if (single) line(single);
-  else if (done === "time") typeTime(race, number, sail);
-  else if (done === "code") askCode(number, sail);
-  else if (done === "ahead" || done === "level") insertAt(race, number, sail, done);
-  else if (done === "into") putInto(race, number, sail);
-  else if (done === "move") moveTo(race, number, sail);
-  else if (done === "swap") swapWith(race, number, sail);
+  if (single) line(name, single);
+  else if (done === "time") typeTime(name, race, number, sail);
+  else if (done === "code") askCode(name, number, sail);
+  else if (done === "ahead" || done === "level") insertAt(name, race, number, sail, done);
+  else if (done === "into") putInto(name, race, number, sail);
+  else if (done === "move") moveTo(name, race, number, sail);
+  else if (done === "swap") swapWith(name, race, number, sail);
 }
 
-async function askCode(number, sail) {
-  const done = await choose(text("finish.whichCode", {sail: called(sail)}), [],
+async function askCode(name, number, sail) {
+  const done = await choose(text("finish.whichCode", {sail: called(sail, name)}), [],
     [...[...CODES, ...PENALTIES].map(code => ({value: code, label: element("span", {}, code, element("small", {}, ` ${text(`code.${code}`)}`))})), cancel()]);
-  if (done) line(`${PENALTIES.includes(done) ? "PENALTY" : "MARK"} ${number} ${sail} ${done}`);
+  if (done) line(name, `${PENALTIES.includes(done) ? "PENALTY" : "MARK"} ${number} ${sail} ${done}`);
 }
 
 // A boat as the sheet of times has her; an elapsed time only if that was given
-function typeTime(race, number, sail) {
+function typeTime(name, race, number, sail) {
   const {finish = "", elapsed = "", code = ""} = race.sheet?.rows[sail] ?? {};
-  return correctByHand(here, number, {sail, finish, elapsed: finish ? "" : elapsed ?? "", code});
+  return correctByHand(name, number, {sail, finish, elapsed: finish ? "" : elapsed ?? "", code});
 }
 
-async function insertAt(race, number, sail, how) {
+async function insertAt(name, race, number, sail, how) {
   const title = text(how === "ahead" ? "scorer.justAheadOf" : "scorer.levelWith", {sail: spaced(sail)});
-  const other = await findBoat(title, missingFrom(race));
-  if (other) line(`${how === "ahead" ? "BEFORE" : "TIE"} ${number} ${other} ${sail}`);
+  const other = await findBoat(name, title, missingFrom(name, race));
+  if (other) line(name, `${how === "ahead" ? "BEFORE" : "TIE"} ${number} ${other} ${sail}`);
 }
 
 const finishersBut = (race, sail) => race.order.flat().filter(other => other !== sail);
 
-async function putInto(race, number, sail) {
-  const other = await findBoat(text("scorer.aheadOfWhom", {sail: spaced(sail)}), finishersBut(race, sail));
-  if (other) line(`BEFORE ${number} ${sail} ${other}`);
+async function putInto(name, race, number, sail) {
+  const other = await findBoat(name, text("scorer.aheadOfWhom", {sail: spaced(sail)}), finishersBut(race, sail));
+  if (other) line(name, `BEFORE ${number} ${sail} ${other}`);
 }
 
-async function moveTo(race, number, sail) {
+async function moveTo(name, race, number, sail) {
   const how = await choose(text("scorer.whereTo", {sail: spaced(sail)}), [], [{value: "ahead", label: text("scorer.aheadOfAnother")},
     {value: "level", label: text("scorer.levelWithAnother")}, {value: "last", label: text("scorer.afterAll")}, cancel()], "stack");
   if (!how) return;
-  const other = how === "last" ? "" : await findBoat(text(how === "ahead" ? "scorer.aheadOfWhom" : "scorer.levelWithWhom", {sail: spaced(sail)}),
+  const other = how === "last" ? "" : await findBoat(name, text(how === "ahead" ? "scorer.aheadOfWhom" : "scorer.levelWithWhom", {sail: spaced(sail)}),
     finishersBut(race, sail));
-  if (how === "last") lines(linesOfMove(number, sail, ""));
-  else if (other) lines(how === "ahead" ? linesOfMove(number, sail, other) : linesOfLevel(number, sail, other));
+  if (how === "last") lines(name, linesOfMove(number, sail, ""));
+  else if (other) lines(name, how === "ahead" ? linesOfMove(number, sail, other) : linesOfLevel(number, sail, other));
 }
 
-async function swapWith(race, number, sail) {
-  const other = await findBoat(text("scorer.swapWith", {sail: spaced(sail)}), finishersBut(race, sail));
+async function swapWith(name, race, number, sail) {
+  const other = await findBoat(name, text("scorer.swapWith", {sail: spaced(sail)}), finishersBut(race, sail));
   if (!other) return;
   const needed = linesOfSwap(race, number, sail, other);
-  if (needed.length) lines(needed);
+  if (needed.length) lines(name, needed);
   else say(text("scorer.areLevel", {one: spaced(sail), other: spaced(other)}));
 }
 
 // A boat that finished after all others, or at a time that is asked for
-export async function addFinisher(number) {
-  if (state().handicap) {
-    const race = raceNumbered(number);
-    const finisher = await findBoat(text("scorer.addFinisher"), missingFrom(race).filter(sail => !hasFinished(race, sail)));
-    if (finisher) typeTime(race, number, finisher);
+export async function addFinisher(name, number) {
+  const race = raceNumbered(name, number);
+  if (state(name).handicap) {
+    const finisher = await findBoat(name, text("scorer.addFinisher"), missingFrom(name, race).filter(sail => !hasFinished(race, sail)));
+    if (finisher) typeTime(name, race, number, finisher);
     return;
   }
-  const sail = await findBoat(text("scorer.whoFinishedLast"), missingFrom(raceNumbered(number)), text("scorer.elsewhereHint"));
-  if (sail) line(`FINISH ${number} ${sail}`);
+  const sail = await findBoat(name, text("scorer.whoFinishedLast"), missingFrom(name, race), text("scorer.elsewhereHint"));
+  if (sail) line(name, `FINISH ${number} ${sail}`);
 }
 
 // A place that was kept: whose was it?
-export async function resolve(number, mark) {
-  const sail = await findBoat(text("finish.whoWas", {mark}), missingFrom(raceNumbered(number)), text("scorer.nobodyHint", {line: `${mark} ${number} none`}));
-  if (sail) line(`${mark} ${number} ${sail}`);
+export async function resolve(name, number, mark) {
+  const sail = await findBoat(name, text("finish.whoWas", {mark}), missingFrom(name, raceNumbered(name, number)), text("scorer.nobodyHint", {line: `${mark} ${number} none`}));
+  if (sail) line(name, `${mark} ${number} ${sail}`);
 }

@@ -6,10 +6,9 @@ import {ask} from "./office.js";
 import {choose, say} from "./dialogs.js";
 import {remarkWords, troubleWords} from "./remark-words.js";
 import {spaced} from "./sails.js";
-import {path, state} from "./desk.js";
+import {state} from "./desk.js";
 import {findBoat} from "./boat-finder.js";
-import {agreedOf} from "./questions.js";
-import {agrees} from "./sending.js";
+import {addressOf, sendAsking, withClass} from "./sending.js";
 import {line} from "./scorer-corrections.js";
 import {sendTimesAgain} from "./scorer-retimed.js";
 
@@ -21,15 +20,16 @@ const LONGEST = 80;
 const LONG = 60000, REMOVING = 135000, SHOWN = 4;
 const button = (value, label, look) => ({value, label, look});
 
-async function columnsOfList() {
-  const found = await ask(path("listed"), undefined, LONG);
+const listOf = name => ask(addressOf("listed", name), undefined, LONG);
+
+async function columnsOfList(name) {
+  const found = await listOf(name);
   return found.status === 200 ? found.columns : [];
 }
 
 // Fields for the names that the entry list has columns for; none if it can't be read.
-async function nameFields(columns, was = {}) {
-  const asked = columns ?? await columnsOfList();
-  return Object.fromEntries(asked.map(name => [name, element("input", {name, maxlength: LONGEST, autocomplete: "off", value: was[name] ?? ""})]));
+function nameFields(columns, was = {}) {
+  return Object.fromEntries(columns.map(name => [name, element("input", {name, maxlength: LONGEST, autocomplete: "off", value: was[name] ?? ""})]));
 }
 
 const valuesOf = fields => Object.fromEntries(Object.entries(fields).map(([name, field]) => [name, field.value.trim()]));
@@ -40,11 +40,11 @@ function namesIn(fields) {
   return Object.fromEntries(Object.entries(valuesOf(fields)).filter(([, words]) => words));
 }
 
-async function putIntoList(sail, names, was = {}) {
-  const done = await ask(path("listed"), {sail: spaced(sail), ...names, was}, LONG);
+async function putIntoList(name, sail, names, was = {}) {
+  const done = await ask(addressOf("listed", name), {sail: spaced(sail), ...names, was}, LONG);
   if (done.status === 200) {
     say(text("scorer.isListed", {sail: spaced(sail)}));
-    if (names.rating) sendTimesAgain(sail);
+    if (names.rating) sendTimesAgain(name, sail);
   } else say(`${text("scorer.isNotListed", {sail: spaced(sail)})}\n${troubleWords(done)}`, true);
 }
 
@@ -55,61 +55,55 @@ async function isRatingMeant(field) {
 }
 
 // Asks for a boat, enters her, and puts her names into the list once that was taken.
-export async function enterLate() {
-  const fields = await nameFields(), sail = element("input", {placeholder: "GBR 123", autocomplete: "off"});
+export async function enterLate(name) {
+  const fields = nameFields(await columnsOfList(name)), sail = element("input", {placeholder: "GBR 123", autocomplete: "off"});
   const inside = [text("scorer.lateMeans"), element("label", {class: "field"}, text("common.sail"), sail), ...shown(fields)];
-  const asked = () => choose(text("scorer.lateEntry"), inside, [button("", text("common.cancel")), button("yes", text("scorer.enterHer"), "main")]);
+  const asked = () => choose(withClass(text("scorer.lateEntry"), name), inside, [button("", text("common.cancel")), button("yes", text("scorer.enterHer"), "main")]);
   let done = await asked();
   while (done === "yes" && !await isRatingMeant(fields.rating)) done = await asked();
   const typed = sail.value.replace(/\s/g, ""), names = namesIn(fields);
   if (done !== "yes" || !typed) return;
-  const sent = await line(`ENTER ${typed}`);
-  if (sent?.outcome === "taken" && Object.keys(names).length) putIntoList(sent.line.split(" ")[1], names);
+  const sent = await line(name, `ENTER ${typed}`);
+  if (sent?.outcome === "taken" && Object.keys(names).length) putIntoList(name, sent.line.split(" ")[1], names);
 }
 
-async function nameBoat(sail) {
-  const fields = await nameFields();
-  const done = await choose(text("scorer.nameHer", {sail: spaced(sail)}), [text("scorer.intoList"), ...shown(fields)],
+async function nameBoat(name, sail) {
+  const fields = nameFields(await columnsOfList(name));
+  const done = await choose(withClass(text("scorer.nameHer", {sail: spaced(sail)}), name), [text("scorer.intoList"), ...shown(fields)],
     [button("", text("common.cancel")), button("yes", text("times.putIn"), "main")]);
-  if (done === "yes") putIntoList(sail, namesIn(fields));
+  if (done === "yes") putIntoList(name, sail, namesIn(fields));
 }
 
 // Asks what is wrong with a boat's names, and puts them right in the entry list once somebody says yes.
-export async function correctNames() {
-  const sail = await findBoat(text("scorer.whoseNames"), state().boats.map(boat => boat[0]));
+export async function correctNames(name) {
+  const sail = await findBoat(name, text("scorer.whoseNames"), state(name).boats.map(boat => boat[0]));
   if (!sail) return;
-  const found = await ask(path("listed"), undefined, LONG);
+  const found = await listOf(name);
   if (found.status !== 200) return say(troubleWords(found), true);
-  const was = found.rows[sail] ?? {}, fields = await nameFields(found.columns, was);
-  const done = await choose(text("scorer.nameHer", {sail: spaced(sail)}), [text("scorer.namesMean"), ...shown(fields)],
+  const was = found.rows[sail] ?? {}, fields = nameFields(found.columns, was);
+  const done = await choose(withClass(text("scorer.nameHer", {sail: spaced(sail)}), name), [text("scorer.namesMean"), ...shown(fields)],
     [button("", text("common.cancel")), button("yes", text("scorer.correctThem"), "main")]);
-  const names = valuesOf(fields), others = Object.keys(names).filter(name => names[name] !== (was[name] ?? ""));
+  const names = valuesOf(fields), others = Object.keys(names).filter(key => names[key] !== (was[key] ?? ""));
   if (done !== "yes" || !others.length) return;
-  const changes = others.map(name => `${text(FIELDS[name])}: ${was[name] || "–"} → ${names[name] || "–"}`);
+  const changes = others.map(key => `${text(FIELDS[key])}: ${was[key] || "–"} → ${names[key] || "–"}`);
   const isMeant = await choose(text("common.isThatRight"), [text("scorer.namesQuestion", {sail: spaced(sail)}), element("p", {}, changes.join("\n"))],
     [button("", text("common.no")), button("yes", text("common.yes"), "main")]);
-  if (isMeant === "yes") putIntoList(sail, Object.fromEntries(others.map(name => [name, names[name]])), was);
+  if (isMeant === "yes") putIntoList(name, sail, Object.fromEntries(others.map(key => [key, names[key]])), was);
 }
 
 // Takes a boat that was entered by mistake out of the journal. The office asks before, with all that goes.
-export async function takeOut() {
-  const sail = await findBoat(text("scorer.whoIsOut"), state().boats.map(boat => boat[0]), text("scorer.outMeans"));
+export async function takeOut(name) {
+  const sail = await findBoat(name, text("scorer.whoIsOut"), state(name).boats.map(boat => boat[0]), text("scorer.outMeans"));
   if (!sail) return;
-  const agreed = [];
-  for (;;) {
-    const done = await ask(path("remove"), {sail, agreed}, REMOVING);
-    if (done.status === 200) return say(done.open ? text("scorer.isOut", {sail: spaced(sail), copy: done.copy}) : done.said.slice(-SHOWN).map(remarkWords).join("\n"), !done.open);
-    if (done.status !== 409) return say(troubleWords(done), true);
-    if (await agrees(done.question, done.said) !== "yes") return undefined;
-    agreed.push(agreedOf(done.question));
-  }
+  const done = await sendAsking("remove", name, {sail}, {patience: REMOVING, tries: 0});
+  if (done) say(done.open ? text("scorer.isOut", {sail: spaced(sail), copy: done.copy}) : done.said.slice(-SHOWN).map(remarkWords).join("\n"), !done.open);
 }
 
 // The boats that are entered and not in the entry list, each with a button
-export function unlistedPart() {
-  const sails = state().unlisted ?? [];
+export function unlistedPart(name) {
+  const sails = state(name).unlisted ?? [];
   if (!sails.length) return null;
   return element("div", {class: "waits", id: "unlisted"}, element("p", {}, text("scorer.unlisted")),
     element("div", {class: "acts"}, sails.map(sail => element("button", {type: "button", "data-key": sail,
-      onclick: () => nameBoat(sail)}, text("scorer.nameHer", {sail: spaced(sail)})))));
+      onclick: () => nameBoat(name, sail)}, text("scorer.nameHer", {sail: spaced(sail)})))));
 }

@@ -1,13 +1,12 @@
 'use strict';
 // Links, devices and offices: what the scorer looks after beside the races.
-import {byId, element} from "./elements.js";
+import {element} from "./elements.js";
 import {text} from "./texts.js";
 import {ask} from "./office.js";
 import {choose, hush, say} from "./dialogs.js";
 import {agreedOf} from "./questions.js";
 import {remarkWords, troubleWords} from "./remark-words.js";
-import {agrees} from "./sending.js";
-import {withClass} from "./desk.js";
+import {addressOf, agrees, withClass} from "./sending.js";
 import {codePicture} from "./qr.js";
 
 const ROLES = ["FINISH", "JURY", "SCORER"];
@@ -110,7 +109,7 @@ async function closeOffice(name) {
   const done = await choose(withClass(text("office.closeQuestion"), name), text("office.closeMeans"),
     [{value: "", label: text("common.no")}, {value: "yes", label: text("office.closeIt"), look: "bad"}]);
   if (done !== "yes") return;
-  await ask(`close/${encodeURIComponent(name)}`, {}, CLOSING);
+  await ask(addressOf("close", name), {}, CLOSING);
   lookAtDevices(drawAgain);
 }
 
@@ -125,13 +124,13 @@ export async function openAsking(what, name) {
   const agreed = [];
   for (;;) {
     say(text("office.opening"));
-    const done = await ask(`${what}/${encodeURIComponent(name)}`, {agreed}, what === "reopen" ? CLOSING + OPENING : OPENING);
+    const done = await ask(addressOf(what, name), {agreed}, what === "reopen" ? CLOSING + OPENING : OPENING);
     if (done.status !== 409) {
       sayOpened(done);
       break;
     }
     hush();
-    if (await agrees(done.question, done.said) !== "yes") break;
+    if (await agrees(name, done.question, done.said) !== "yes") break;
     agreed.push(agreedOf(done.question));
   }
 }

@@ -3,52 +3,61 @@
 // their rows of the sheet.
 import {element} from "./elements.js";
 import {text} from "./texts.js";
-import {ask} from "./office.js";
+import {ask, newId} from "./office.js";
 import {choose, say} from "./dialogs.js";
 import {remarkSentences, troubleWords} from "./remark-words.js";
-import {called, path, raceNumbered, state} from "./desk.js";
+import {called, raceNumbered, state} from "./desk.js";
 import {atTheLine} from "./race-view.js";
-import {lines} from "./scorer-unfinished.js";
+import {addressOf, withClass} from "./sending.js";
+import {agreedOfLines, lines} from "./scorer-unfinished.js";
 import {linesOfCodes, linesOfOtherRace, linesOfOtherSheet} from "./corrections.js";
 
 const RACES = 40;
 const cancel = () => ({value: "", label: text("common.cancel")});
 
 // The finishers of a race as they came, also those that only the sheet has
-export function finishersOf(race) {
-  const sheet = state().handicap ? race.sheet?.rows ?? {} : {};
-  return [...new Set([...state().handicap ? atTheLine(race).order.flat() : [], ...race.order.flat(),
+export function finishersOf(name, race) {
+  const {handicap} = state(name), sheet = handicap ? race.sheet?.rows ?? {} : {};
+  return [...new Set([...handicap ? atTheLine(race).order.flat() : [], ...race.order.flat(),
     ...Object.keys(sheet).filter(sail => !sheet[sail].code && sheet[sail].elapsed !== null)])];
 }
 
 // Which finishers and codes belong to which race; null if none are to be moved.
-async function asked(number, race, finishers) {
+async function asked(name, number, race, finishers) {
   const coded = Object.keys(race.codes).filter(sail => !finishers.includes(sail));
   const field = element("select", {"aria-label": text("common.race")},
     Array.from({length: RACES}, (_, at) => at + 1).filter(one => one !== number).map(one => element("option", {value: one}, one)));
   const codes = element("input", {type: "checkbox", id: "codes-too", checked: true});
   // From the first finisher on it is the whole race.
   const from = element("select", {"aria-label": text("scorer.fromBoat"), onchange: () => { codes.checked = from.selectedIndex === 0; }},
-    finishers.map(sail => element("option", {value: sail}, called(sail))));
+    finishers.map(sail => element("option", {value: sail}, called(sail, name))));
   const done = await choose(text("scorer.otherRace"), [element("label", {class: "field"}, text("scorer.fromBoat"), from),
     coded.length ? element("div", {class: "options"}, element("label", {}, codes, element("span", {},
-      text("scorer.codesToo", {codes: coded.map(sail => `${called(sail)} ${race.codes[sail]}`)})))) : null,
+      text("scorer.codesToo", {codes: coded.map(sail => `${called(sail, name)} ${race.codes[sail]}`)})))) : null,
     element("label", {class: "field"}, text("scorer.belongTo"), field)], [cancel(), {value: "yes", label: text("scorer.putThem"), look: "main"}]);
   const sails = finishers.slice(from.selectedIndex);
   return done === "yes" ? {to: Number(field.value), sails, isAll: from.selectedIndex === 0, coded: codes.checked ? coded : []} : null;
 }
 
 // Moves finishers to another race.
-export async function toOtherRace(number) {
-  const race = raceNumbered(number), found = await asked(number, race, finishersOf(race));
-  if (!found) return;
+export async function toOtherRace(name, number) {
+  const race = raceNumbered(name, number), found = await asked(name, number, race, finishersOf(name, race));
+  if (!found || haveUnread(race, found)) return;
   const codes = linesOfCodes(race, number, found.to, [...found.sails, ...found.coded]);
-  if (state().handicap) sheetToOther(number, race, found, codes);
-  else lines(linesOfOtherRace(race, number, found.to, found.sails, codes));
+  if (state(name).handicap) sheetToOther(name, number, race, found, codes);
+  else lines(name, linesOfOtherRace(race, number, found.to, found.sails, codes));
+}
+
+// Whether a place is kept among the boats, which is said: nobody knows of which race she is.
+function haveUnread(race, {sails, isAll}) {
+  const first = race.order.findIndex(group => group.includes(sails[0]));
+  const marks = race.unread.filter(gap => isAll || gap.after > first).map(gap => gap.mark);
+  if (marks.length) say(text("scorer.stillUnread", {n: marks.length, marks}), true);
+  return marks.length > 0;
 }
 
 const filled = values => [...new Set(values.filter(Boolean))];
-const sheetOf = number => ask(`${path("sheet")}/${number}`);
+const sheetOf = (name, number) => ask(`${addressOf("sheet", name)}/${number}`);
 
 // Whether an answer of the office is a sheet; what is wrong is said.
 function isTaken(answer) {
@@ -56,14 +65,15 @@ function isTaken(answer) {
   return answer.status === 200;
 }
 
-// Moves rows of a sheet: their starts, laps, distances and elapsed times first, then a line for each finish.
-async function sheetToOther(number, race, {to, sails, isAll}, codes) {
-  const [from, other] = [await sheetOf(number), await sheetOf(to)];
+// Moves rows of a sheet: their starts, laps, distances and elapsed times first, then a line for each finish. What is asked of
+// these lines is asked before.
+async function sheetToOther(name, number, race, {to, sails, isAll}, codes) {
+  const [from, other] = [await sheetOf(name, number), await sheetOf(name, to)];
   if (!isTaken(from) || !isTaken(other) || hasTwice(to, sails, other.rows)) return;
   const moved = new Map(from.rows.filter(row => sails.includes(row.sail) && (row.finish || row.elapsed)).map(row => [row.sail, row]));
   const starts = filled([...moved.values()].map(row => row.start)), there = filled(other.rows.map(row => row.start));
   const isOther = starts.length > 0 && there.length > 0 && starts.join() !== there.join();
-  const whose = isOther ? await whoseStart(to, there, starts) : "own";
+  const whose = isOther ? await whoseStart(name, to, there, starts) : "own";
   if (!whose) return;
   // A start that all have is that of the whole race.
   const usual = whose === "there" ? there[0] : there.length || starts.length > 1 ? "" : starts[0] ?? "";
@@ -72,8 +82,9 @@ async function sheetToOther(number, race, {to, sails, isAll}, codes) {
     return [row.sail, {...Object.fromEntries(other.columns.map(key => [key, own[key]])), start, elapsed: own.finish ? "" : own.elapsed}];
   });
   const given = {race: to, rows: Object.fromEntries(rows), tag: other.tag, overnight: other.overnight || from.overnight};
-  if (!isTaken(await ask(path("sheet"), given))) return;
-  if (await lines(linesOfOtherSheet(race, number, to, sails, moved, codes)) && isAll) clearStart(number);
+  const several = linesOfOtherSheet(race, number, to, sails, moved, codes), agreed = await agreedOfLines(name, several);
+  if (!agreed || !isTaken(await ask(addressOf("sheet", name), given))) return;
+  if (await lines(name, several, newId(), agreed) && isAll) clearStart(name, number);
 }
 
 // Whether one of the boats is in the other sheet already, which is said
@@ -85,13 +96,13 @@ function hasTwice(to, sails, rows) {
   return true;
 }
 
-const whoseStart = (to, there, starts) => choose(text("scorer.whichStart", {number: to}), [], [
+const whoseStart = (name, to, there, starts) => choose(withClass(text("scorer.whichStart", {number: to}), name), [], [
   {value: "there", label: text("scorer.startThere", {number: to, start: there.join(" ")})},
   {value: "own", label: text("scorer.startOwn", {start: starts.join(" ")})}, cancel()], "stack");
 
 // A race of which nothing is left has no start any more: that was the other race's.
-async function clearStart(number) {
-  const {status, rows, tag, overnight} = await sheetOf(number);
+async function clearStart(name, number) {
+  const {status, rows, tag, overnight} = await sheetOf(name, number);
   if (status !== 200 || rows.some(row => row.finish || row.elapsed || row.code)) return;
-  await ask(path("sheet"), {race: number, tag, overnight, rows: Object.fromEntries(rows.map(row => [row.sail, {start: ""}]))});
+  await ask(addressOf("sheet", name), {race: number, tag, overnight, rows: Object.fromEntries(rows.map(row => [row.sail, {start: ""}]))});
 }

@@ -18,33 +18,33 @@ let drawAgain = () => {};
 const codeTag = code => element("span", {class: `code ${kindOf(code)}`}, code);
 const placed = race => race.order.flat().filter(sail => !race.codes[sail]);
 
-function rowsOf(race, number) {
+function rowsOf(name, race, number) {
   const rows = finishers(race).filter(row => row.gap || row.place)
-    .map(row => row.gap ? unreadRow(number, row) : boatRow(race, number, row.sail, `${row.place}${row.isTied ? "=" : ""}`, ordinal(row.place)));
-  return [...rows, ...Object.entries(race.codes).map(([sail, code]) => boatRow(race, number, sail, codeTag(code), code))];
+    .map(row => row.gap ? unreadRow(name, number, row) : boatRow(name, race, number, row.sail, `${row.place}${row.isTied ? "=" : ""}`, ordinal(row.place)));
+  return [...rows, ...Object.entries(race.codes).map(([sail, code]) => boatRow(name, race, number, sail, codeTag(code), code))];
 }
 
-function boatRow(race, number, sail, place, placeWords) {
-  const key = `${number} ${sail}`, boat = boatOf(sail), isTicked = ticked.has(key);
+function boatRow(name, race, number, sail, place, placeWords) {
+  const key = `${number} ${sail}`, boat = boatOf(sail, name), isTicked = ticked.has(key);
   const held = heldIn(race, sail).filter(code => code !== race.codes[sail]);
   const flip = () => { if (!ticked.delete(key)) ticked.add(key); drawAgain(); };
   return element("tr", {class: isTicked ? "ticked" : "", "data-key": key, "data-sail": sail},
     element("td", {class: "tick"}, element("button", {type: "button", "aria-pressed": String(isTicked),
       "aria-label": text("scorer.asOnPaper", {boat: spaced(sail)}), onclick: flip}, "✓")),
     element("td", {class: "place", "aria-label": placeWords}, place),
-    element("th", {class: "sail", scope: "row"}, element("button", {type: "button", class: "quiet", onclick: () => correct(number, sail)}, spaced(sail))),
+    element("th", {class: "sail", scope: "row"}, element("button", {type: "button", class: "quiet", onclick: () => correct(name, number, sail)}, spaced(sail))),
     element("td", {class: "name"}, [boat?.[1], boat?.[2]].filter(Boolean).join(" · ")), element("td", {}, held.map(codeTag)),
-    element("td", {class: "time", title: race.by[sail]}, timeIn(race, sail)));
+    element("td", {class: "time", title: race.by[sail]}, timeIn(name, race, sail)));
 }
 
 // Her finish as the sheet of times has it, or the time of her tap
-function timeIn(race, sail) {
-  return state().handicap ? race.sheet?.rows[sail]?.finish : timeOfDay(race.at[sail]);
+function timeIn(name, race, sail) {
+  return state(name).handicap ? race.sheet?.rows[sail]?.finish : timeOfDay(race.at[sail], state(name).zone);
 }
 
-function unreadRow(number, {gap, place}) {
+function unreadRow(name, number, {gap, place}) {
   return element("tr", {class: "unread", "data-key": `${number} ${gap.mark}`}, element("td", {}), element("td", {class: "place", "aria-label": ordinal(place)}, place),
-    element("th", {class: "sail", scope: "row"}, element("button", {type: "button", class: "quiet", onclick: () => resolve(number, gap.mark)}, gap.mark)),
+    element("th", {class: "sail", scope: "row"}, element("button", {type: "button", class: "quiet", onclick: () => resolve(name, number, gap.mark)}, gap.mark)),
     element("td", {class: "name"}, text("finish.sailNotRead")), element("td", {}), element("td", {}, text("scorer.who")));
 }
 
@@ -65,25 +65,34 @@ function comparedLine(race, number) {
 
 // What is still to be done before a race counts
 function missingParts(race, away) {
-  const waiting = waitingIn(race).map(spaced);
   const unread = race.unread.map(gap => gap.mark), onlyPenalty = away.filter(sail => race.penalties[sail]?.length);
-  return [waiting.length ? text("said.sheet-waits", {fault: waiting.join(", ")}) : "", unread.length ? text("scorer.stillUnread", {n: unread.length, marks: unread}) : "",
+  return [unread.length ? text("scorer.stillUnread", {n: unread.length, marks: unread}) : "",
     onlyPenalty.length ? text("scorer.penaltyWithoutPlace", {n: onlyPenalty.length, sails: onlyPenalty.map(spaced)}) : ""].filter(Boolean)
     .map(words => element("p", {class: "waits"}, words));
 }
 
-function awayPart(race, number, away) {
-  const title = away.length ? text(race.counts ? "scorer.scoredDnc" : "scorer.notRecordedYet") : text("scorer.allRecorded");
-  const buttons = away.map(sail => element("button", {type: "button", "data-key": sail, "data-sail": sail, onclick: () => correct(number, sail)},
-    called(sail), (race.penalties[sail] ?? []).map(code => [" ", codeTag(code)])));
-  return [element("h3", {}, title), element("div", {class: "missing"}, buttons)];
+// Boats that aren't in the order, each with a button
+function boatButtons(name, race, number, sails) {
+  return element("div", {class: "missing"}, sails.map(sail => element("button", {type: "button", "data-key": sail, "data-sail": sail,
+    onclick: () => correct(name, number, sail)}, called(sail, name), (race.penalties[sail] ?? []).map(code => [" ", codeTag(code)]))));
 }
 
-function typedForm() {
+// The boats whose times or codes are in the sheet alone
+function waitingPart(name, race, number, waiting) {
+  return waiting.length ? element("div", {class: "waits", id: "in-sheet"}, element("p", {}, text("said.sheet-waits", {fault: ""})),
+    boatButtons(name, race, number, waiting)) : null;
+}
+
+function awayPart(name, race, number, away) {
+  const title = away.length ? text(race.counts ? "scorer.scoredDnc" : "scorer.notRecordedYet") : text("scorer.allRecorded");
+  return [element("h3", {}, title), boatButtons(name, race, number, away)];
+}
+
+function typedForm(name) {
   const send = async event => {
     event.preventDefault();
     const words = byId("typed").value.trim();
-    if (words && await line(words)) byId("typed").value = "";
+    if (words && await line(name, words)) byId("typed").value = "";
   };
   return element("form", {class: "typed", onsubmit: send},
     element("input", {id: "typed", "aria-label": text("scorer.typeLine"), placeholder: text("scorer.typeLineAs", {line: "before 3 33 9"}), autocomplete: "off", spellcheck: "false"}),
@@ -91,33 +100,34 @@ function typedForm() {
 }
 
 // What the scorer does with entries, whichever race is shown
-function entriesPart() {
-  const button = (id, key, press, look = "") => element("button", {type: "button", id, class: look, onclick: press}, text(key));
+function entriesPart(name) {
+  const button = (id, key, press, look = "") => element("button", {type: "button", id, class: look, onclick: () => press(name)}, text(key));
   return element("div", {class: "acts"}, button("late", "scorer.lateEntry", enterLate), button("correct-names", "scorer.correctNames", correctNames),
     button("take-out", "scorer.takeOut", takeOut, "quiet bad"));
 }
 
-function actions(race, number, isEmpty) {
+function actions(name, race, number, isEmpty) {
   const count = race.counts
-    ? element("button", {type: "button", id: "unscore", onclick: () => line(`UNSCORE ${number}`)}, text("scorer.unscore"))
-    : element("button", {type: "button", class: "main", id: "score", disabled: isEmpty, onclick: () => line(`SCORE ${number}`)}, text("scorer.score", {number}));
+    ? element("button", {type: "button", id: "unscore", onclick: () => line(name, `UNSCORE ${number}`)}, text("scorer.unscore"))
+    : element("button", {type: "button", class: "main", id: "score", disabled: isEmpty, onclick: () => line(name, `SCORE ${number}`)}, text("scorer.score", {number}));
   return element("div", {class: "acts"}, count,
-    element("button", {type: "button", id: "add", onclick: () => addFinisher(number)}, text("scorer.addFinisher")),
-    element("button", {type: "button", id: "other-race", disabled: !finishersOf(race).length, onclick: () => toOtherRace(number)}, text("scorer.otherRaceShort")),
+    element("button", {type: "button", id: "add", onclick: () => addFinisher(name, number)}, text("scorer.addFinisher")),
+    element("button", {type: "button", id: "other-race", disabled: !finishersOf(name, race).length, onclick: () => toOtherRace(name, number)}, text("scorer.otherRaceShort")),
     element("span", {class: "grow"}),
-    element("button", {type: "button", class: "quiet bad", id: "abandon", disabled: isEmpty, onclick: () => line(`ABANDON ${number}`)}, text("scorer.abandon")));
+    element("button", {type: "button", class: "quiet bad", id: "abandon", disabled: isEmpty, onclick: () => line(name, `ABANDON ${number}`)}, text("scorer.abandon")));
 }
 
-export function racePane(number, draw) {
+export function racePane(name, number, draw) {
   drawAgain = draw;
-  const race = raceNumbered(number), away = missingFrom(race), rows = rowsOf(race, number);
+  const race = raceNumbered(name, number), waiting = waitingIn(race), rows = rowsOf(name, race, number);
+  const away = missingFrom(name, race).filter(sail => race.counts || !waiting.includes(sail));
   const counts = [text("scorer.finishedCount", {n: placed(race).length}), text("scorer.codedCount", {n: Object.keys(race.codes).length}),
     text(race.counts ? "scorer.dncCount" : "scorer.missingCount", {n: away.length})].join(" · ");
   return element("section", {class: "pane", "aria-labelledby": "race-title"},
     element("header", {}, element("h2", {id: "race-title"}, `${text("common.race")} ${number} `),
       element("span", {class: `chip ${race.counts ? "good" : "wait"}`}, text(race.counts ? "scorer.counts" : "scorer.doesntCount")),
       element("span", {class: "soft"}, counts)),
-    unfinishedPart(), actions(race, number, !rows.length), rows.length ? comparedLine(race, number) : null, missingParts(race, away),
-    stalePart(state().decisions),
-    orderTable(rows), awayPart(race, number, away), unlistedPart(), typedForm(), entriesPart());
+    unfinishedPart(name), actions(name, race, number, !rows.length), rows.length ? comparedLine(race, number) : null, waitingPart(name, race, number, waiting), missingParts(race, away),
+    stalePart(state(name).decisions),
+    orderTable(rows), awayPart(name, race, number, away), unlistedPart(name), typedForm(name), entriesPart(name));
 }

@@ -1,9 +1,10 @@
 'use strict';
 // What the scorer declares of the results, the results as files and on paper, and the journal with its copies.
 import {byId, element} from "./elements.js";
-import {date, list, text, timeOfDay} from "./texts.js";
+import {byClock, language, list, text, timeOfDay} from "./texts.js";
 import {ask, me, newId} from "./office.js";
-import {here, path, state, withClass} from "./desk.js";
+import {here, state} from "./desk.js";
+import {addressOf, withClass} from "./sending.js";
 import {choose, say} from "./dialogs.js";
 import {agreedOf, wordsOf} from "./questions.js";
 import {remarkSentences, troubleWords, valueWords} from "./remark-words.js";
@@ -22,14 +23,19 @@ const LONGEST = 200;
 // just declaring
 const known = {found: null, asked: "", isDeclaring: false};
 
-const moment = milliseconds => `${date(milliseconds)}, ${timeOfDay(milliseconds)}`;
 const entries = count => text("results.entries", {n: count});
+
+// A moment by the clock of the series
+function moment(milliseconds) {
+  const zone = state()?.zone;
+  return zone ? `${byClock(milliseconds, zone).toLocaleDateString(language, {dateStyle: "long", timeZone: "UTC"})}, ${timeOfDay(milliseconds, zone)}` : "";
+}
 
 // Asks how the results stand, and has it drawn.
 export async function lookAtResults(draw) {
   const name = here;
   if (!name) return;
-  const found = await ask(path("results"));
+  const found = await ask(addressOf("results", name));
   if (found.status !== 200 || name !== here) return;
   known.found = {...found, class: name};
   draw();
@@ -66,8 +72,8 @@ const openList = points => element("ul", {class: "waits open-points"}, points.ma
 
 // Declaring
 
-async function agreesTo({question, open}) {
-  const inside = [element("p", {}, withClass(wordsOf(question))), open.length ? element("h3", {}, text("results.stillOpen")) : null,
+async function agreesTo(name, {question, open}) {
+  const inside = [element("p", {}, withClass(wordsOf(question), name)), open.length ? element("h3", {}, text("results.stillOpen")) : null,
     open.length ? openList(open) : null];
   return await choose(text("common.isThatRight"), inside,
     [{value: "", label: text("common.no")}, {value: "yes", label: text("common.yes"), look: "main"}]) === "yes";
@@ -75,11 +81,11 @@ async function agreesTo({question, open}) {
 
 // Sends a declaration until there is an answer: the same again is no second one. Gives the answer, or null if
 // somebody says no.
-async function sent(address, declaration) {
+async function sent(name, declaration) {
   for (let tries = 0; ; tries++) {
-    const done = await ask(address, declaration, DECLARING);
+    const done = await ask(addressOf("declare", name), declaration, DECLARING);
     if (done.status === 409) {
-      if (!await agreesTo(done)) return null;
+      if (!await agreesTo(name, done)) return null;
       declaration.agreed = [agreedOf(done.question)];
     } else if ([0, 429, 503].includes(done.status) && tries < TRIES) {
       await new Promise(goOn => setTimeout(goOn, PAUSE * (tries + 1)));
@@ -89,7 +95,7 @@ async function sent(address, declaration) {
   }
 }
 
-async function declare(to, draw) {
+async function declare(name, to, draw) {
   const reason = byId("reason").value.trim();
   if (to === "amended" && !reason) {
     say(text("results.needReason"), true);
@@ -98,7 +104,7 @@ async function declare(to, draw) {
   }
   if (known.isDeclaring) return;
   known.isDeclaring = true;
-  const done = await sent(path("declare"), {id: newId(), state: to, reason, agreed: []});
+  const done = await sent(name, {id: newId(), state: to, reason, agreed: []});
   known.isDeclaring = false;
   if (done?.status === 200) {
     byId("reason").value = "";
@@ -119,7 +125,7 @@ function standStep(found, draw) {
     found.open.length ? [element("h3", {}, text("results.stillOpen")), openList(found.open)] : element("p", {class: "done"}, text("results.nothingOpen")),
     element("label", {class: "field"}, text("results.reason"), element("input", {id: "reason", maxlength: LONGEST, autocomplete: "off"})),
     element("div", {class: "acts"}, STATES.map(one => element("button", {type: "button", id: `declare-${one}`, class: one === "final" ? "main" : "",
-      onclick: () => declare(one, draw)}, text(`results.declare.${one}`)))));
+      onclick: () => declare(found.class, one, draw)}, text(`results.declare.${one}`)))));
 }
 
 // Files and paper
@@ -175,16 +181,16 @@ function secondWords(second) {
 }
 
 // Makes the folder of a stick the second folder, or none ("").
-async function chooseStick(folder, draw) {
-  const done = await ask(path("second"), {path: folder});
+async function chooseStick(name, folder, draw) {
+  const done = await ask(addressOf("second", name), {path: folder});
   if (done.status !== 200) say(troubleWords(done), true);
   else say(folder ? text(done.copies.is_waiting ? "results.stickLater" : "results.stickNow", {folder}) : text("results.noStickNow"));
   lookAtResults(draw);
 }
 
 // The sticks that are in, of which one can be the second folder
-function sticksPart({sticks = [], chosen = "", is_waiting: isWaiting}, draw) {
-  const button = (folder, ...inside) => element("button", {type: "button", "data-stick": folder, onclick: () => chooseStick(folder, draw)}, ...inside);
+function sticksPart(name, {sticks = [], chosen = "", is_waiting: isWaiting}, draw) {
+  const button = (folder, ...inside) => element("button", {type: "button", "data-stick": folder, onclick: () => chooseStick(name, folder, draw)}, ...inside);
   const others = sticks.filter(stick => stick.path !== chosen);
   return element("div", {id: "sticks"}, isWaiting ? element("p", {class: "waits"}, text("results.stickWaits", {folder: chosen || "–"})) : null,
     element("p", {class: "soft"}, text(others.length ? "results.sticks" : "results.noStick")),
@@ -195,7 +201,7 @@ function sticksPart({sticks = [], chosen = "", is_waiting: isWaiting}, draw) {
 function journalStep(found, draw) {
   return element("section", {class: "step"}, element("h2", {}, text("results.journal")), element("dl", {class: "facts"},
     fact(text("results.theJournal"), journalWords(found)), fact(text("results.dated"), datedWords(found.copies.dated)),
-    fact(text("results.second"), secondWords(found.copies.second))), sticksPart(found.copies, draw));
+    fact(text("results.second"), secondWords(found.copies.second))), sticksPart(found.class, found.copies, draw));
 }
 
 export function resultsPage(draw) {

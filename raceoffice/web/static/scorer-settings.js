@@ -3,6 +3,7 @@
 import {element, fill} from "./elements.js";
 import {list, text} from "./texts.js";
 import {ask, comeIn} from "./office.js";
+import {addressOf} from "./sending.js";
 import {choose, say} from "./dialogs.js";
 import {remarkSentences, remarkWords, troubleWords} from "./remark-words.js";
 import {verdictWords} from "./jury-kept.js";
@@ -10,11 +11,11 @@ import {moveRows} from "./jury-preview.js";
 import {instructionsStep, settingsOf, wrongWords} from "./new-series-settings.js";
 import {rulesWords} from "./rules-words.js";
 import {openAsking} from "./scorer-links.js";
+import {send} from "./desk.js";
 
 // Milliseconds: until the effect is asked for after a change, and for an answer that takes replays of the journal
 const SOON = 300, LONG = 130000;
 
-const at = (what, name) => `${what}/${encodeURIComponent(name)}`;
 const named = keys => list(keys.map(key => text(`settings.key.${key}`)));
 const step = (title, ...inside) => element("section", {class: "step"}, element("h2", {}, title), inside);
 
@@ -72,7 +73,7 @@ class SettingsForm {
   }
 
   async look() {
-    const mine = ++this.asked, found = await ask(at("rules", this.name), this.values, LONG);
+    const mine = ++this.asked, found = await ask(addressOf("rules", this.name), this.values, LONG);
     if (mine !== this.asked) return;
     fill(this.effect, effectParts(found));
     this.retimed = found.retimed ?? [];
@@ -82,17 +83,39 @@ class SettingsForm {
   async save() {
     if (this.button.disabled) return;
     this.button.disabled = true;
-    const done = await ask(at("save", this.name), this.values, LONG);
+    const races = this.retimed.map(({race}) => race), done = await ask(addressOf("save", this.name), this.values, LONG);
     this.button.disabled = false;
     if (done.status !== 200) {
       say(troubleWords(done), true);
       return;
     }
-    say(text("settings.saved"));
-    for (const {race} of this.retimed) await sendLine(this.name, `TIMES ${race}`, state()?.entries ?? 0);
+    const left = await sendTimes(this.name, races);
+    if (!left.length) say(text("settings.saved"));
     await comeIn();
-    this.again(done);
+    this.again(done, left);
   }
+}
+
+// Sends the times of races by the rounding that was saved; the races of which that wasn't done
+async function sendTimes(name, races) {
+  const left = [];
+  for (const race of races) {
+    const done = await send(name, `TIMES ${race}`);
+    if (!done || done.outcome === "refused") left.push(race);
+  }
+  return left;
+}
+
+// The races that still have the times by the rounding before
+function leftPart(name, races, again) {
+  if (!races.length) return null;
+  const sendAgain = async () => {
+    const left = await sendTimes(name, races);
+    if (!left.length) say(text("settings.saved"));
+    again(undefined, left);
+  };
+  return element("section", {class: "step", id: "times-left"}, element("p", {class: "waits"}, text("settings.timesLeft", {n: races.length, races})),
+    element("div", {class: "acts"}, element("button", {type: "button", id: "send-left", onclick: sendAgain}, text("settings.sendTimes"))));
 }
 
 async function reopen(name, again) {
@@ -113,12 +136,13 @@ function waitingPart(name, found, again) {
       : element("p", {class: "waits"}, text("settings.otherWindow")));
 }
 
-// Shows the settings of a class in a part of the page. `known` is what the office said of them just now, if it did.
-async function show(page, name, known) {
-  const found = known ?? await ask(at("rules", name)), again = said => show(page, name, said);
+// Shows the settings of a class in a part of the page. `known` is what the office said of them just now, if it did; `left`
+// are the races whose times weren't sent after that.
+async function show(page, name, known, left = []) {
+  const found = known ?? await ask(addressOf("rules", name)), again = (said, races = left) => show(page, name, said, races);
   if (found.status !== 200) page.replaceChildren(element("p", {class: "card wrong"}, troubleWords(found)));
   else if (found.wrong.length) page.replaceChildren(element("p", {class: "card wrong"}, remarkSentences(found.wrong).join("\n")));
-  else page.replaceChildren(element("div", {class: "steps"}, waitingPart(name, found, again)), new SettingsForm(name, found, again).node);
+  else page.replaceChildren(element("div", {class: "steps"}, leftPart(name, left, again), waitingPart(name, found, again)), new SettingsForm(name, found, again).node);
 }
 
 // The page of a class; it has a life of its own.

@@ -7,10 +7,9 @@ import {ask} from "./office.js";
 import {say} from "./dialogs.js";
 import {remarkSentences, troubleWords} from "./remark-words.js";
 import {saidWords} from "./said-words.js";
-import {sendLine} from "./sending.js";
 import {correctByHand} from "./finish-by-hand.js";
 import {spaced} from "./sails.js";
-import {state} from "./desk.js";
+import {send, state} from "./desk.js";
 
 const RACES = 40;
 const HOUR = 3600, MINUTE = 60;
@@ -73,7 +72,7 @@ class Sheet {
   }
 
   corrected(sail) {
-    return duration(state()?.races[this.found.race]?.times?.[sail]);
+    return duration(state(this.name)?.races[this.found.race]?.times?.[sail]);
   }
 
   // Shows the corrected times as they now are; what is typed stays.
@@ -100,7 +99,7 @@ class Sheet {
       say(troubleWords(saved), true);
       return;
     }
-    const done = await sendLine(this.name, `TIMES ${this.found.race}`, state()?.entries ?? 0);
+    const done = await send(this.name, `TIMES ${this.found.race}`);
     if (done && done.outcome !== "refused") say(saidWords(done.said).slice(0, 3).join("\n") || text("times.saved"));
     this.again();
   }
@@ -113,7 +112,9 @@ function raceField(again) {
 }
 
 async function show(page, name) {
-  const found = await ask(at(name, `/${number}`)), again = () => show(page, name);
+  const asked = number, found = await ask(at(name, `/${asked}`)), again = () => show(page, name);
+  // Somebody may have gone on to another race or class.
+  if (asked !== number || !page.isConnected) return;
   const wrong = found.status !== 200 ? troubleWords(found) : remarkSentences(found.wrong).join("\n");
   shown = wrong ? null : new Sheet(name, found, again);
   page.replaceChildren(raceField(again), shown?.node ?? element("p", {class: "step wrong"}, wrong));
@@ -126,7 +127,7 @@ export function drawTimes() {
 
 // The page of a class by corrected time; it has a life of its own.
 export function timesPage(name) {
-  const races = Object.keys(state()?.races ?? {}).map(Number), page = element("main", {class: "steps"}, element("p", {class: "soft"}, text("times.reading")));
+  const races = Object.keys(state(name)?.races ?? {}).map(Number), page = element("main", {class: "steps"}, element("p", {class: "soft"}, text("times.reading")));
   number ||= Math.max(1, ...races);
   show(page, name);
   return page;

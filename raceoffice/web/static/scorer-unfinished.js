@@ -5,51 +5,45 @@ import {element} from "./elements.js";
 import {text} from "./texts.js";
 import {ask, newId, now} from "./office.js";
 import {choose, say} from "./dialogs.js";
-import {agreedOf} from "./questions.js";
-import {agrees, isTriedAgain, told} from "./sending.js";
-import {troubleWords} from "./remark-words.js";
-import {path, state} from "./desk.js";
+import {addressOf, sendAsking, told, withClass} from "./sending.js";
+import {state} from "./desk.js";
 
 const mono = lines => element("p", {class: "mono"}, lines.join("\n"));
 
-// Has the office do a correction, and asks what it asks; the answers to its lines, null if there are none.
-async function sendWhole(id, lines) {
-  const correction = {id, lines, at: now(), agreed: []}, address = path("correct");
-  for (let tries = 0; ; tries++) {
-    const said = await ask(address, correction);
-    if (said.status === 200) return said.done;
-    if (said.status === 409) {
-      if (await agrees(said.question, said.said) !== "yes") return null;
-      correction.agreed.push(agreedOf(said.question));
-    } else if (!await isTriedAgain(said.status, tries)) {
-      say(troubleWords(said), true);
-      return null;
-    }
-  }
+// Has the office do a correction, and asks what it asks; what came of it, null if nothing was sent.
+const sendWhole = (name, id, lines, more = {}) => sendAsking("correct", name, {id, lines, at: now(), ...more});
+
+const leave = (name, id) => ask(addressOf("correct", name), {id, lines: [], leave: true});
+
+// Asks what the office asks of a correction, of which nothing is sent; what was agreed to, null if something wasn't.
+export async function agreedOfLines(name, several) {
+  return (await sendWhole(name, newId(), several, {ask: true}))?.agreed ?? null;
 }
 
-const leave = id => ask(path("correct"), {id, lines: [], leave: true});
-
-// Sends the lines of one correction. Whether all were taken; if one isn't, it is said which are left.
-export async function lines(several, id = newId()) {
-  const done = await sendWhole(id, several), last = done?.at(-1);
-  if (!last) return false;
-  if (last.outcome !== "refused") {
+// Sends the lines of one correction. Whether all were taken; if not, it is said which are left, and why.
+export async function lines(name, several, id = newId(), agreed = []) {
+  const came = several.length ? await sendWhole(name, id, several, {agreed}) : null;
+  if (!came) return false;
+  const {outcome, done, left} = came;
+  if (outcome === "taken") {
     say(text("scorer.linesSent", {n: done.length}));
     return true;
   }
-  told(last, last.said);
-  if (done.length > 1) {
-    await choose(text("scorer.stopped"), [text("scorer.notSent"), mono(several.slice(done.length - 1))], [{value: "ok", label: text("finish.understood"), look: "main"}]);
-    leave(id);
-  }
+  if (outcome === "refused") told(done.at(-1), done.at(-1).said);
+  if (outcome === "left" || done.length > 1) await sayLeft(name, outcome, done.length, left);
+  if (outcome === "refused") leave(name, id);
   return false;
 }
 
+function sayLeft(name, outcome, sent, left) {
+  return choose(withClass(text(sent ? "scorer.stopped" : "common.notSent"), name), [text(outcome === "left" ? "scorer.leftUnsent" : "scorer.notSent"), mono(left)],
+    [{value: "ok", label: text("finish.understood"), look: "main"}]);
+}
+
 // What is left of corrections that stopped half way
-export function unfinishedPart() {
-  return (state().unfinished ?? []).map(({id, lines: left}) => element("div", {class: "waits unfinished", "data-key": id},
+export function unfinishedPart(name) {
+  return (state(name).unfinished ?? []).map(({id, lines: left}) => element("div", {class: "waits unfinished", "data-key": id},
     element("p", {}, element("strong", {}, `${text("scorer.stopped")}. `), text("scorer.notSent")), mono(left),
-    element("div", {class: "acts"}, element("button", {type: "button", class: "main finish-it", onclick: () => lines(left, id)}, text("scorer.sendRest")),
-      element("button", {type: "button", class: "quiet bad leave-it", onclick: () => leave(id)}, text("scorer.leaveRest")))));
+    element("div", {class: "acts"}, element("button", {type: "button", class: "main finish-it", onclick: () => lines(name, left, id)}, text("scorer.sendRest")),
+      element("button", {type: "button", class: "quiet bad leave-it", onclick: () => leave(name, id)}, text("scorer.leaveRest")))));
 }

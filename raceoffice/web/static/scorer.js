@@ -49,7 +49,7 @@ function racesPage() {
   shownRaces[here] ||= numbers.filter(one => !state().races[one].counts).at(-1) || Math.max(1, ...numbers);
   return element("main", {class: "desk"},
     element("nav", {class: "races", "aria-label": text("common.races")}, Array.from({length: most}, (_, at) => raceTab(at + 1))),
-    racePane(shownRaces[here], draw), standingPane());
+    racePane(here, shownRaces[here], draw), standingPane());
 }
 
 // What is looked at while a tab is shown

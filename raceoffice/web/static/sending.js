@@ -2,7 +2,7 @@
 // Sends lines of a page that is connected: the scorer's and the jury's.
 import {element} from "./elements.js";
 import {text} from "./texts.js";
-import {ask, newId, now} from "./office.js";
+import {ask, me, newId, now} from "./office.js";
 import {choose, say} from "./dialogs.js";
 import {agreedOf, refusalOf, wordsOf} from "./questions.js";
 import {moveOf, remarkSentences, troubleWords} from "./remark-words.js";
@@ -24,35 +24,52 @@ function inWords(question) {
   return {...question, values};
 }
 
-// Asks a question of the office; "yes" if somebody agrees.
-export function agrees(question, said = []) {
+// A class by its name, if there are several; "" otherwise
+function groupOf(name) {
+  return me?.classes.length > 1 ? me.classes.find(one => one.class === name)?.group ?? "" : "";
+}
+
+// What is asked, with the class that it is about if there are several
+export const withClass = (words, name) => [groupOf(name), words].filter(Boolean).join(": ");
+
+// Asks a question of the office about a class; "yes" if somebody agrees.
+export function agrees(name, question, said = []) {
   const asked = inWords(question), {lines = [], moves = [], also = ""} = question.kind === "line-of-several" ? {} : asked.values;
   const more = lines.length || moves.length ? [also, ...moves.map(moveOf)].filter(Boolean).join("\n") : saidWords(said).join("\n");
-  return choose(text("common.isThatRight"), [wordsOf(asked), lines.length ? element("p", {class: "mono"}, lines.join("\n")) : null, more],
+  return choose(text("common.isThatRight"), [withClass(wordsOf(asked), name), lines.length ? element("p", {class: "mono"}, lines.join("\n")) : null, more],
     [{value: "", label: text("common.no")}, {value: "yes", label: text("common.yes"), look: "main"}]);
 }
 
-// Sends a line. What the office asks is asked here, and the same tap is sent again until there is an answer.
-// Gives the answer, or null if nothing was sent.
-export async function sendLine(name, line, seen, more = {}) {
-  const tap = {id: newId(), line, seen, at: now(), agreed: [], ...more};
-  for (let tries = 0; ; tries++) {
-    const said = await ask(`line/${encodeURIComponent(name)}`, tap);
-    if (said.status === 200) return told(said, said.said);
-    if (said.status === 409 && said.outcome === "asked") {
-      if (await agrees(said.question, said.said) !== "yes") return null;
-      tap.agreed.push(agreedOf(said.question));
-    } else if (!await isTriedAgain(said.status, tries)) {
+// What is sent about a class: `what` says for what.
+export const addressOf = (what, name) => `${what}/${encodeURIComponent(name)}`;
+
+// Sends a request to an address about a class. What the office asks is asked here, and the same is sent again until there is
+// an answer, whichever class the page has come to show. Gives the answer, with what was agreed to, or null if there is none.
+export async function sendAsking(what, name, values, {patience, tries = TRIES} = {}) {
+  const address = addressOf(what, name), given = {agreed: [], ...values};
+  for (let left = tries; ;) {
+    const said = await ask(address, given, patience);
+    if (said.status === 200) return {...said, agreed: given.agreed};
+    if (said.status === 409 && said.outcome !== "elsewhere") {
+      if (await agrees(name, said.question, said.said) !== "yes") return null;
+      given.agreed.push(agreedOf(said.question));
+    } else if (!await isTriedAgain(said.status, left--)) {
       say(troubleWords(said), true);
       return null;
     }
   }
 }
 
+// Sends a line; the answer, or null if nothing was sent.
+export async function sendLine(name, line, seen, more = {}) {
+  const said = await sendAsking("line", name, {id: newId(), line, seen, at: now(), ...more});
+  return said && told(said, said.said);
+}
+
 // Whether what wasn't answered is sent again: that is so for a while, after a pause.
-export async function isTriedAgain(status, tries) {
-  if (![0, 429, 503].includes(status) || tries >= TRIES) return false;
-  await new Promise(goOn => setTimeout(goOn, PAUSE * (tries + 1)));
+async function isTriedAgain(status, left) {
+  if (![0, 429, 503].includes(status) || !left) return false;
+  await new Promise(goOn => setTimeout(goOn, PAUSE * (TRIES - left + 1)));
   return true;
 }
 

@@ -43,7 +43,7 @@ export function lastChange() {
   if (!last?.moves?.length) return null;
   const more = last.moves.length - TOLD;
   return element("div", {class: "changed", id: "changed", role: "status"},
-    element("b", {}, `${timeOfDay(last.at)}  ${last.line}`), element("span", {class: "soft"}, `  ${text(`role.${last.role}`)}`),
+    element("b", {}, `${timeOfDay(last.at, state().zone)}  ${last.line}`), element("span", {class: "soft"}, `  ${text(`role.${last.role}`)}`),
     element("ul", {}, last.moves.slice(0, TOLD).map(move => element("li", {}, moveWords(move, called(move.sail)))),
       more > 0 ? element("li", {}, text("desk.andMore", {n: more})) : null));
 }

@@ -77,13 +77,16 @@ export function points(written) {
   return String(written).replace(".", mark);
 }
 
-// A moment of the day, as 14:05:09: sports clocks have 24 hours in every language.
-export function timeOfDay(milliseconds) {
-  return milliseconds ? new Date(milliseconds).toLocaleTimeString(language, {hourCycle: "h23", hour: "2-digit", minute: "2-digit", second: "2-digit"}) : "";
+// A date whose UTC is what the clock of a zone shows. `zone` is as the state of a class has it: since when that clock is ahead
+// of UTC, and by how much.
+export function byClock(milliseconds, zone) {
+  const [, ahead] = zone.findLast(([since]) => since <= milliseconds) ?? zone[0];
+  return new Date(milliseconds + ahead);
 }
 
-export function date(milliseconds) {
-  return new Date(milliseconds).toLocaleDateString(language, {dateStyle: "long"});
+// A moment of the day, as 14:05:09: sports clocks have 24 hours in every language. Nothing while the zone isn't known.
+export function timeOfDay(milliseconds, zone) {
+  return milliseconds && zone ? byClock(milliseconds, zone).toISOString().slice(11, 19) : "";
 }
 
 // The field in which somebody chooses another language: the page begins again with it.
