@@ -1,2 +1,3 @@
 pub mod TwoPieces
 pub mod Unlike
+pub mod Zips

@@ -4,6 +4,7 @@
 //! A document is one JSON object. It has sails, numbers and fixed words alone.
 #![tactic(auto)]
 
+mod averaging;
 mod boats;
 mod documents;
 mod fields;
@@ -14,6 +15,7 @@ mod separations;
 mod series;
 mod ties;
 
+pub use averaging::averaged_races;
 pub use documents::write_document;
 pub use makers::{last_entry, place_of, ranks_after};
 pub use parts::{
