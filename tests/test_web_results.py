@@ -141,7 +141,10 @@ class Declared(Results):
             self.assertEqual([one["values"]["devices"] for one in self.shown()["open"] if one["kind"] == "taps-unsent"],
                              [[left]] if left else [])
         self.assertEqual(self.scorer.tap("SCORE 1")[1]["question"]["kind"], "score-missing")
-        # Who scores knows her own taps.
+        # Who scores knows her own taps. A page that keeps none holds nothing when somebody is asked there.
+        tap = held | {"id": new_id(), "line": "SCORE 1"}
+        self.assertEqual(self.scorer.ask("POST", "/office/scorer/line/cup", tap, X_Unsent="0")[0], 409)
+        self.assertEqual([one for one in self.shown()["open"] if one["kind"] == "taps-unsent"], [])
         self.scorer.ask("GET", "/office/scorer/me", X_Unsent="1")
         self.assertEqual(self.scorer.tap("SCORE 1")[1]["question"]["kind"], "score-missing")
         self.web.send_signal(signal.SIGINT)

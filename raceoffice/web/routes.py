@@ -333,11 +333,12 @@ class Routes:
         raise Wrong(404)
 
     def line(self, request: Request, role: str, device: Device, room: Room) -> Reply:
-        """A tap. One that somebody is asked about waits on its device from then on."""
+        """A tap. One that a finish boat is asked about waits on its device from then on; other pages keep no taps."""
         try:
             return self.tapped(request, role, device, room)
         except (Asked, Elsewhere):
-            self.gate.note_waiting(request, device)
+            if role == "FINISH":
+                self.gate.note_waiting(request, device)
             raise
 
     def tapped(self, request: Request, role: str, device: Device, room: Room) -> Reply:

@@ -56,6 +56,16 @@ class Finish(WebTrial):
         self.assertEqual(ann.texts("#list li .place"), ["1", "2", "3", "4=", "4=", "6", "7"])
         self.need_no_faults()
 
+    def test_moments_that_are_not_known(self) -> None:
+        """A boat that the scorer adds, and one ahead of another, have no time on the page: nobody saw when they finished."""
+        ann, scorer = self.phone(), web_devices.Device(self.port, "scorer").come(self.links["scorer"], "Bea")
+        ann.tap("GBR101")
+        self.settle(ann)
+        for line in ("FINISH 1 GBR7", "BEFORE 1 NED12 GBR101"):
+            self.assertEqual(scorer.tap(line)[1]["outcome"], "taken")
+        ann.until("document.querySelectorAll('#list li').length === 3")
+        self.assertEqual([bool(time) for time in ann.texts("#list li .end b")], [False, True, False])
+
     def test_digits_and_places(self) -> None:
         """Digits show the whole number first; boats keep their places until nobody taps any more."""
         ann = self.phone()

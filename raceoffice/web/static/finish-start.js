@@ -3,6 +3,7 @@
 import {element} from "./elements.js";
 import {text} from "./texts.js";
 import {choose} from "./dialogs.js";
+import {now} from "./office.js";
 import {addTap, clock, page, raceNow} from "./finish-state.js";
 
 // Asks for the start until it is one.
@@ -23,7 +24,7 @@ export async function askStart(name) {
 
 // Whether a start is meant that the clock of the series hasn't come to
 async function isMeant(name, start) {
-  const now = clock(name);
-  return start <= now || await choose(text("finish.startAhead", {now, start}), [],
+  const time = clock(name, now());
+  return start <= time || await choose(text("finish.startAhead", {now: time, start}), [],
     [{value: "", label: text("common.no")}, {value: "yes", label: text("common.yes"), look: "main"}]) === "yes";
 }

@@ -137,8 +137,8 @@ export function isTimed(name) {
   return page.states[name]?.handicap === true;
 }
 
-// A moment by the clock of a class
-export const clock = (name, at = now()) => timeOfDay(at, page.states[name]?.zone);
+// A moment by the clock of a class; nothing if it isn't known
+export const clock = (name, at) => timeOfDay(at, page.states[name]?.zone);
 
 // The classes of which a race is being recorded
 export const sailing = () => page.classes.filter(one => page.races[one.class]);

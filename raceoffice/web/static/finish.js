@@ -3,7 +3,7 @@
 // still on their way.
 import {byId, fill} from "./elements.js";
 import {loadTexts, text} from "./texts.js";
-import {comeIn, countUnsentBy, followNews, me, stateFollower} from "./office.js";
+import {comeIn, countUnsentBy, followNews, me, now, stateFollower} from "./office.js";
 import {LATE, answer, askedItem, clock, forgetIfShown, isWaiting, keep, kept, page, queue} from "./finish-state.js";
 import {lastTapAt} from "./finish-taps.js";
 import {drawGrid} from "./finish-grid.js";
@@ -89,7 +89,7 @@ function askWhenCalm() {
 }
 
 function keepTime() {
-  setInterval(() => fill(byId("clock"), [...new Set(page.classes.map(one => clock(one.class)))].join(" ")), CLOCK);
+  setInterval(() => fill(byId("clock"), [...new Set(page.classes.map(one => clock(one.class, now())))].join(" ")), CLOCK);
   setInterval(() => { if (queue.items.some(isWaiting)) draw(); }, LATE / 2);
   setInterval(askWhenCalm, QUESTIONS);
 }
