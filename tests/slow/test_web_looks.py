@@ -204,8 +204,8 @@ class Looking(unittest.TestCase):
         device.run(f"localStorage.setItem('tap:{'0' * 30}', JSON.stringify({{class: 'cup', line: 'FINISH 2 {SAILS[9]}', agreed: [],"
                    " state: 'asked', id: '0', at: Date.now(), clock: {span: '', ahead: 7e6}}))")
         device.reload()
-        device.until("!!document.querySelector('#link.away')")
-        device.click("#link.away")
+        device.until(LIVE)
+        device.click("#link")
         device.until(OPEN)
         yield "when"
 
