@@ -14,6 +14,7 @@ from __future__ import annotations
 
 import argparse
 import importlib
+import os
 import sys
 from types import ModuleType
 
@@ -65,8 +66,17 @@ def parser_for(words: list[str]) -> argparse.ArgumentParser:
     return parser
 
 
+def open_closed_streams() -> None:
+    """Has nothing read and what is said go nowhere where a shell has closed input or output, as by `>&-`. Else a file that
+    is opened later would be taken for it."""
+    for name, mode in (("stdin", "r"), ("stdout", "w"), ("stderr", "w")):
+        if getattr(sys, name) is None:
+            setattr(sys, name, open(os.devnull, mode, encoding="utf-8"))
+
+
 def main(words: list[str] | None = None) -> int:
     """Does what a command line asks for; the status."""
+    open_closed_streams()
     words = sys.argv[1:] if words is None else words
     parser = parser_for(words)
     if not words:

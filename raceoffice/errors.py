@@ -34,7 +34,11 @@ def as_trouble(kind: str, /, **values: Value) -> Iterator[None]:
         raise Trouble(remark(kind, why=system_remark(cause), **values)) from None
 
 
-class Gone(Trouble):
+class Lost(Trouble):
+    """A link to an office failed, or has to be left: only another link can be used."""
+
+
+class Gone(Lost):
     """Nobody serves at the socket."""
 
 
@@ -42,7 +46,7 @@ class Served(Trouble):
     """Another process serves the series to browsers."""
 
 
-class NoSeat(Trouble):
+class NoSeat(Lost):
     """All seats of the office are taken."""
 
 

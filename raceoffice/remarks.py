@@ -306,7 +306,8 @@ ENGLISH: dict[str, str | tuple[str, str] | tuple[str, str, str]] = {
     "decision-needed": "a decision is needed",
     "decision-changed": "somebody else has typed meanwhile, and it comes to something else: look again",
     # Why a boat can't be taken out of a journal
-    "removal-beside": "{sail} can't be taken out: entry {number}, {line}, places another boat beside her",
+    "removal-beside": "{sail} can't be taken out: entry {number}, {line}, places another boat beside her: "
+                      "strike {boat} in race {race} first",
     "removal-open": "the office is open: close it first, by Ctrl-C in its window",
     "removal-absent": "{sail} isn't in journal.txt",
     "removal-torn": "journal.txt ends in a torn line, as after a crash: first open the office, and close it",
@@ -352,6 +353,8 @@ ENGLISH: dict[str, str | tuple[str, str] | tuple[str, str, str]] = {
     "finisher-unwritten": "{name} can't be written: {why}. Write her down on paper",
     "places-unread": "office/places can't be read",
     "places-several": "more than one place is kept: type {marks:or} and her sail",
+    "places-among": "race {race} keeps places among these boats: {marks}. Say first who was there. Or move the boats ahead of a place by "
+                    "themselves, and then those behind it: the place stays in race {race}",
     "no-place": "no finisher {mark} is kept in race {race}",
     "no-place-only": "no finisher {mark} is kept in race {race}, only {marks}",
     "no-place-here": "{why}. Race {races} has one: type at {race} first",

@@ -49,8 +49,10 @@ LOCAL = re.compile(r"\|-- (\S+)\s+/32 host LOCAL")
 BOOT = "/proc/sys/kernel/random/boot_id"
 # Seconds without a sign after which what was typed has ended, and how much of it is taken at most.
 PAUSE, MOST_TYPED = 0.05, 65536
-# The signals that end a window.
-STOPS = {signal.SIGINT, signal.SIGTERM, getattr(signal, "SIGHUP", signal.SIGTERM)}
+# The signals that end a window. Under `nohup` a terminal that goes away ends none.
+STOPS = {signal.SIGINT, signal.SIGTERM}
+if hasattr(signal, "SIGHUP") and signal.getsignal(signal.SIGHUP) != signal.SIG_IGN:
+    STOPS.add(signal.SIGHUP)
 
 
 def only_linux(what: str) -> None:

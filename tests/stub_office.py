@@ -4,20 +4,16 @@ from __future__ import annotations
 
 import http.server
 import json
-import os
 import threading
 import time
 from typing import Any
 
-import helpers
 from raceoffice.remarks import Remark, remark
+from raceoffice.web.routes import static_files
 from raceoffice.web.preview import wrong_shown
 from raceoffice.web.states import remarks_of
 from web_office import BOATS, SAILS
 
-STATIC = os.path.join(helpers.TOP, "raceoffice", "web", "static")
-KINDS = {".html": "text/html; charset=utf-8", ".js": "text/javascript", ".css": "text/css", ".json": "application/json",
-         ".webmanifest": "application/manifest+json"}
 POLICY = ("default-src 'none'; script-src 'self'; style-src 'self'; connect-src 'self'; img-src 'self'; "
           "manifest-src 'self'; worker-src 'self'; base-uri 'none'; form-action 'none'; frame-ancestors 'none'")
 # What the window of an open office says: its series, and when it was opened.
@@ -134,10 +130,11 @@ class QuietServer(http.server.ThreadingHTTPServer):
 
 
 class StubOffice:
-    """Serves the pages. `line` is what a tap or a declaration is answered: a status and values; `classes` are the
-    classes."""
+    """Serves the pages, with `files` as the office has them. `line` is what a tap or a declaration is answered: a status and
+    values; `classes` are the classes."""
 
     def __init__(self) -> None:
+        self.files = static_files()
         self.classes = ["cup"]
         self.version, self.is_ended = 1, False
         self.line: tuple[int, dict[str, Any]] = 503, {"words": "the office is away"}
@@ -216,8 +213,11 @@ class StubOffice:
                 self.wfile.write(data)
 
             def file(self, name: str) -> None:
-                with open(os.path.join(STATIC, name), "rb") as file:
-                    self.reply(200, KINDS[os.path.splitext(name)[1]], file.read())
+                if name not in office.files:
+                    self.reply(404, "text/plain", b"")
+                    return
+                kind, data = office.files[name]
+                self.reply(200, kind + ("; charset=utf-8" if kind.startswith("text/") else ""), data)
 
             def news(self) -> None:
                 self.send_response(200)

@@ -184,6 +184,28 @@ class AtTheLine(OnWater):
                 f"FINISH {race} NED12", f"FINISH {race} GBR7", f"STRIKE {race} GBR7", f"BEFORE {race} GBR7 NED12"])
             self.assertEqual(self.shown(race)["unread"], [])
 
+    def test_undo_is_overtaken(self) -> None:
+        """Others go on without a window that was stopped between its look and its undo: the boat whose line back is
+        overtaken is struck, and put where she was."""
+        self.types(1, "gbr 101", "gbr 7", "strike 1 gbr7")
+        lock = os.open(self.room.folder.file("office", "line.lock"), os.O_RDWR | os.O_CREAT)
+        self.addCleanup(os.close, lock)
+        fcntl.flock(lock, fcntl.LOCK_EX)
+        noted = Places.note_back
+
+        def note_back(*words: Any) -> Any:
+            while self.meanwhile:
+                self.meanwhile.pop()()
+            return noted(*words)
+        self.bob.session.ask = lambda question: True
+        self.others(1, "NED12")
+        with mock.patch.object(Places, "note_back", note_back):
+            self.types(1, "undo")
+        self.has(1, "GBR101 GBR7 NED12")
+        self.assertEqual(self.commands()[-4:], ["FINISH 1 NED12", "FINISH 1 GBR7", "STRIKE 1 GBR7", "BEFORE 1 GBR7 NED12"])
+        self.types(1, "undo")
+        self.has(1, "GBR101 NED12")
+
     def commands(self) -> list[str]:
         self.room.look()
         return self.room.facts.commands

@@ -40,6 +40,7 @@ REFUSED = {
     "POST /cup/ HTTP/1.1": 405, "PUT /cup/results.csv HTTP/1.1": 405, "DELETE / HTTP/1.1": 405,
     "OPTIONS * HTTP/1.1": 400, "get / HTTP/1.1": 405, "GET http://x/cup/ HTTP/1.1": 400,
     "GET /cup/": 400, "GET  / HTTP/1.1": 400, "GET / HTTP/2": 400, "SHOW": 400, "\xff\xfe": 400,
+    "GET / HTTP/1.2": 400, "GET / HTTP/1.999": 400, "GET / HTTP/1.": 400, "GET / HTTP/1.1\t": 400, "GET / http/1.1": 400,
 }
 
 

@@ -5,6 +5,7 @@ from __future__ import annotations
 import os
 import subprocess
 import unittest
+from unittest import mock
 
 import helpers
 from raceoffice.errors import Trouble
@@ -55,6 +56,8 @@ HEADED = [
     ("Zeilnummer;Stuurman;Bemanning;Bootnaam;Vereniging;Rating", ["Bemanning"]),
     ("Nº de vela;Patrón;Tripulante;Barco;Club Náutico;Rating", ["Tripulante"]),
     ("Número de vela,Nombre del patrón,Nombre del barco,Club,Clase,TCC", ["Clase"]),
+    ("Numero velico;Timoniere;Equipaggio;Imbarcazione;Circolo;TCC", ["Equipaggio"]),
+    ("N. velico,Nome timoniere,Nome barca,Circolo Nautico,Classe,Rating", ["Classe"]),
     ("Sail Number,Helm Name,Boat Name,Club Name,Portsmouth Number,,Name", ["column 6", "Name"]),
 ]
 
@@ -189,6 +192,40 @@ class Entries(unittest.TestCase):
                 file.truncate(read_list.LARGEST + 1)
             self.assertRaisesRegex(Trouble, "is longer than 1,048,576 bytes", read_list.bytes_of, long)
             self.assertRaisesRegex(Trouble, "name of a file", read_list.bytes_of, "a\0b")
+
+    def test_hostile(self) -> None:
+        """However many faults or columns a list of 1 MB has, a thousand are looked at: whoever taps waits for it."""
+        bad = b"Sail\n" + b"".join(b"G/%d\n" % at for at in range(90_000))
+        self.assertEqual(len(entry_list.problems(bad, "list.csv")), 1000)
+        with mock.patch.object(headings, "plain_heading", side_effect=headings.plain_heading) as read:
+            self.assertEqual(entry_list.problems(b"Sail," + b"a," * 400_000 + b"\nA,\n", "list.csv"), [])
+        self.assertLess(read.call_count, 100_000)
+
+    def test_looked_through_once(self) -> None:
+        """A list, also one with faults, is parsed and looked through once, however many sessions, boards and sheets ask for
+        its boats: whoever taps waits for it. A list that has changed is read, even at the same size and time."""
+        for rows in (b"".join(b"A-%d,Ann\n" % at for at in range(400)), b"".join(b"A-%d,Bo\n" % at for at in range(900))):
+            with helpers.folder() as name, \
+                    mock.patch.object(entry_list, "fault_of_row", side_effect=entry_list.fault_of_row) as looked, \
+                    mock.patch.object(entry_list, "Boat", side_effect=entry_list.Boat) as made, \
+                    mock.patch.object(read_list, "rows_of", side_effect=read_list.rows_of) as parsed:
+                path, count = os.path.join(name, "list.csv"), rows.count(b"\n")
+                with open(path, "wb") as file:
+                    file.write(b"Sail,Helm\n" + rows)
+                for _ in range(3):
+                    boats = entry_list.read_if_there(path)
+                    boats.clear()
+                    entry_list.problems(read_list.bytes_of(path), path).clear()
+                good = count if count <= entry_list.ROOM else 0
+                self.assertEqual((looked.call_count, made.call_count, parsed.call_count),
+                                 (count, good, len(read_list.SEPARATORS)))
+                self.assertEqual((len(entry_list.read(path)), len(entry_list.problems(read_list.bytes_of(path), path))),
+                                 (good, count > entry_list.ROOM))
+                at = os.stat(path)
+                with open(path, "r+b") as file:
+                    file.write(b"Sail,Boat\n")
+                os.utime(path, ns=(at.st_atime_ns, at.st_mtime_ns))
+                self.assertEqual([boat.name for boat in entry_list.read(path).values()], ["Ann"] * good)
 
     def test_names(self) -> None:
         boats = listed(helpers.ENTRIES.encode())

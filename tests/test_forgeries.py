@@ -3,8 +3,10 @@ says and how long it takes."""
 from __future__ import annotations
 
 import contextlib
+import html
 import io
 import os
+import random
 import re
 import time
 import unittest
@@ -19,7 +21,7 @@ from raceoffice.errors import ForeignPage, Unsure
 from raceoffice.results.html.notice_board import results as notice
 from raceoffice.results.html.overall import overall
 from raceoffice.results.html.page import confirmed
-from raceoffice.verify import own_words, page_data, verifier
+from raceoffice.verify import own_words, page_data, verifier, visible
 
 ANOTHER = ('<div class="scroll"><table><tr><td>1</td><th class="sail">GBR 33</th><td>2.0</td></tr></table>'
            "</div>")
@@ -51,6 +53,9 @@ CONFIRMATIONS = [("2099-01-01T00:00:00+00:00", "open"), ("2026-03-01T10:00:00+00
 SHOWN = ["GBR 33", "GBR\u200b101", "GBR 101\u200d", "", " ", "GBR 101 (DSQ, see notice 4)", "\u202e101 RBG",
          "G\u0336B\u0336R\u0336 101", "GBR  101", "GBR 101 ", "ＧBR 101", "GBR\u00a0101", "GBR101\n"]
 ESC = "\x1b[2K\x1b[1Aresults.html: verified.\n   Scored again, every cell is the same.\x1b[8m"
+# What references are made of, and what looks like one.
+REFERENCES = ["&", "&amp;", "&#x27;", "&quot;", "&lt;", "&gt;", "&lt", "&amp", "#x27;", "amp;", "lt;", "&#39;", "&not", "it", ";", "&#",
+              "x", "'", "<", " ", "a" * 30]
 # What takes long to take apart, and isn't.
 SLOW = [page_data.START, "<!--", "<![CDATA[", "<?", "<a ", "<a b='", "</a ", "<p>", "<table>", "<tr><td>x",
         "<caption><p>x", "&", "&#9", "<script>", "</script", "<style>", "<" * 9, "[", '{"a":', "\u202e"]
@@ -382,6 +387,30 @@ class Forgeries(ForgedPages):
                 self.verifier.verified(text)
                 self.fail(text[:80])
             self.assertLess(time.process_time() - begun, 1, f"{text[:40]!r} .. {text[-40:]!r}")
+
+    def test_many_quotes(self) -> None:
+        """Of a page with millions of signs that take six letters each in HTML nothing can be said, in some seconds. What the
+        package writes is read without looking for the references of others, and means the same."""
+        begun = time.process_time()
+        long = resealed(self.made["results"], lambda whole: whole["series"][0]["settings"].update(reason="'" * 5_000_000))
+        self.assertRaisesRegex(Unsure, "as HTML, which would take too long", self.verifier.verified, long)
+        self.assertLess(time.process_time() - begun, 20)
+        page = self.forged("results", ("series", 0, "boats", 0, 2), "'&amp;<&lt;\"" * 100)
+        with unittest.mock.patch("html.unescape", side_effect=AssertionError("html.unescape")):
+            self.assertEqual(self.said(page)[0], 0)
+        chosen = random.Random(5)
+        for _ in range(helpers.trials(3000)):
+            text = "".join(chosen.choice(REFERENCES) for _ in range(chosen.randint(1, 9)))
+            self.assertEqual(visible.unescaped(text, False), html.unescape(text), text)
+
+    def test_many_references(self) -> None:
+        """A page full of references that the package never writes isn't verified, in some seconds."""
+        page = self.made["results"]
+        forged = page.replace("</h1>", "&notit" * 10_000 + "</h1>", 1)
+        self.assertIn("\u00acit", self.why(forged))
+        honest = resealed(page, lambda whole: whole["series"][0]["settings"].update(reason="." * 2_000_000))
+        with unittest.mock.patch("html.unescape", side_effect=AssertionError("html.unescape")):
+            self.assertIn("line", self.why(honest.replace("</h1>", "&x" * 2_000_000 + "</h1>", 1)))
 
     def test_long_decisions(self) -> None:
         """Decisions that are as long, or as many, as can be take a page no longer than a second."""

@@ -19,7 +19,7 @@ from raceoffice.results.html.markup import NOTHING, Markup, raw, separated, tag,
 LIKE_MARKUP = re.compile(r'<[A-Za-z/!]|&[a-z]+;|[a-z]="')
 # What has such texts, and writes no page: it reads pages, or shows signs by their numbers.
 READERS = {"results/html/page.py": {"OURS"}, "verify/page_data.py": {"START", "END"},
-           "verify/verifier.py": {"CONFIRMED"}, "verify/visible.py": {"TAG", "CLASS", "tokens"}}
+           "verify/verifier.py": {"CONFIRMED"}, "verify/visible.py": {"AND", "CLASS", "OWN", "TAG", "tokens"}}
 HOSTILE = [MARKUP, "</script>", "<!--", "' onload='x", "&lt;b&gt;", "]]>", "<", ">", "&", "\0", "a\u2028b"]
 
 

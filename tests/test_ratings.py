@@ -83,7 +83,8 @@ class AtTheFinish(Web):
         self.finish.tap("START 1 14:00:00")
         self.assertEqual([self.why("GBR101"), self.why("GBR7"), self.journal()], [[odd], [odd, none], []])
         self.write(self.text("cup", "entries.csv").replace("1.05", "1105"), "cup", "entries.csv")
-        self.finish.tap("START 1 14:00:01")
+        since = {"kind": "start-since", "values": {"race": 1, "start": "14:00:00", "written": "14:00:01"}}
+        self.finish.tap("START 1 14:00:01", agreed=[since])
         self.assertEqual([self.why("GBR101"), self.why("GBR7")], [[], [none]])
         # 4,050 seconds, a thousandfold, by 1050
         self.assertEqual(self.journal(), ["FINISH TIME 1 GBR101 3857"])

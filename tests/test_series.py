@@ -225,6 +225,30 @@ class Opening(helpers.Series):
         self.assertEqual(again.rest(), ("Nothing was opened.\n", 1))
         self.assertFalse(os.path.exists(os.path.join(self.here, "cup", "office", "race.sock")))
 
+    def test_rules_after_a_crash(self) -> None:
+        """Results go by the rules of a program that serves, also if its window or its socket has gone. If none does, they
+        go by series.ini, also beside the socket of one that was killed."""
+        window = self.open()
+        self.send(*LINES)
+        self.write(self.text("cup", "series.ini").replace("absent = a52", "absent = a53"), "cup", "series.ini")
+        window.process.kill()
+        window.process.wait()
+        program, socket = self.number(), os.path.join(self.here, "cup", "office", "race.sock")
+        os.rename(socket, f"{socket}.old")
+        self.assertIn("RRS A5.2", self.exported())
+        os.rename(f"{socket}.old", socket)
+        self.assertIn("RRS A5.2", self.exported())
+        os.kill(program, signal.SIGKILL)
+        helpers.until("its end", lambda: not os.path.exists(f"/proc/{program}"))
+        self.assertTrue(os.path.exists(socket))
+        self.assertIn("RRS A5.3", self.exported())
+
+    def exported(self) -> str:
+        """The results of `cup` as a text."""
+        said, status = helpers.run("export", "cup", "--text", cwd=self.here)
+        self.assertEqual(status, 0, said)
+        return said
+
     def test_closed_properly(self) -> None:
         """After an orderly end nothing is lost. If somebody has made the journal shorter, it is asked; what
         was typed before is no answer."""
@@ -307,7 +331,7 @@ class Opening(helpers.Series):
         self.assertIn("10 entries\n", helpers.run("check", "cup", cwd=self.here)[0])
 
     def test_remove_refused(self) -> None:
-        """A boat beside whom another was placed stays."""
+        """A boat stays while another who was placed beside her has that place."""
         window = self.open()
         self.send("ENTER DEN16", "FINISH 1 DEN16", "TIE 1 GBR7 DEN16")
         window.press()
@@ -315,12 +339,29 @@ class Opening(helpers.Series):
         before = self.text("cup", "journal.txt")
         found = helpers.run("remove", "cup", "DEN16", cwd=self.here)
         self.assertEqual(found, ("DEN16 can't be taken out: entry 10, TIE 1 GBR7 DEN16, places another "
-                                "boat beside her.\n", 1))
+                                "boat beside her: strike GBR7 in race 1 first.\n", 1))
         self.write("\n".join(before.splitlines()[:10] + ["1 10 SCORER SCORE 1", ""]), "cup", "journal.txt")
         said, status = helpers.run("remove", "cup", "DEN16", cwd=self.here)
         self.assertIn("DEN16 can't be taken out: SCORE 1 would be refused without her: nobody has finished "
                       "in this race.\n", said)
         self.assertEqual((self.held(), status), (10, 1))
+
+    def test_remove_one_beside_others(self) -> None:
+        """A boat goes if all who were placed beside her have been struck since, with those lines, and nobody moves."""
+        window = self.open()
+        self.send("ENTER DEN16", "FINISH 2 GBR7", "FINISH 2 DEN16", "TIE 2 GBR101 DEN16", "MARK 2 GBR101 OCS",
+                  "STRIKE 2 GBR101", "BEFORE 2 GBR101 DEN16", "STRIKE 2 GBR101", "FINISH 2 GBR101")
+        window.press()
+        window.rest()
+        asking = self.window("remove", "cup", "DEN16")
+        gone = [line.strip() for line in asking.read(r"\[y/N\] $").split("entries go:\n")[1].splitlines()][:-1]
+        self.assertEqual([line.split("SCORER ")[1] for line in gone if "SCORER" in line],
+                         ["ENTER DEN16", "FINISH 2 DEN16", "TIE 2 GBR101 DEN16", "STRIKE 2 GBR101", "BEFORE 2 GBR101 DEN16",
+                          "STRIKE 2 GBR101"])
+        asking.type("y")
+        self.assertEqual(asking.rest()[1], 0)
+        left = [line.split(" ", 3)[3] for line in self.text("cup", "journal.txt").splitlines()[1:]]
+        self.assertEqual(left[-3:], ["FINISH 2 GBR7", "MARK 2 GBR101 OCS", "FINISH 2 GBR101"])
 
     def test_remove_declined(self) -> None:
         """A boat who isn't taken out after all, who is the only one, or in whose journal somebody has typed,

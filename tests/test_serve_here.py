@@ -1,10 +1,15 @@
 """`raceoffice serve` without a folder, where there are series already."""
 from __future__ import annotations
 
+import json
 import os
+import re
+import stat
 import unittest
 
 import helpers
+import test_web_qr
+from raceoffice.web.gate import hashed
 
 ASKED = r"\? The results aren't final yet\. \[Y/n\] $"
 
@@ -36,11 +41,64 @@ class Here(helpers.Series):
         window.press()
         window.rest()
 
+    def test_devices_of_a_final_series(self) -> None:
+        """Links and devices that a series had which is final by now are those of one that has none, if that is wanted."""
+        ann = {"mark": "f" * 64, "role": "FINISH", "name": "Ann", "since": 1.0, "heard": 1.0}
+        held = {"keys": {"FINISH": hashed("gybe")}, "devices": {"f" * 64: ann}}
+        os.mkdir(os.path.join(self.here, "old", "office"))
+        self.write(json.dumps(held), "old", "office", "web.json")
+        # A series that has links of its own keeps them.
+        window = self.asked()
+        window.type("")
+        self.assertNotIn("Use those of", window.read(r"Ctrl-C closes the office\."))
+        window.press()
+        window.rest()
+        os.remove(os.path.join(self.here, "fleet", "office", "web.json"))
+        for answer, was_used in [("n", False), ("", True)]:
+            window = self.window("serve", "--http", str(helpers.free_port(self)))
+            window.read(ASKED)
+            window.type("")
+            window.read(r"cup has no links yet\. Use those of old, which is final\? They let in Ann \(finish\)\. \[Y/n\] $")
+            window.type(answer)
+            self.assertEqual("Finish " not in window.read(r"Ctrl-C closes the office\."), was_used)
+            window.press()
+            window.rest()
+            path = os.path.join(self.here, "cup", "office", "web.json")
+            self.assertEqual("Ann" in self.text("cup", "office", "web.json"), was_used)
+            self.assertEqual(stat.S_IMODE(os.stat(path).st_mode), 0o600)
+            os.remove(path)
+        # Links of weeks ago are asked about no more.
+        os.utime(os.path.join(self.here, "old", "office", "web.json"), (1e9, 1e9))
+        window = self.window("serve", "--http", str(helpers.free_port(self)))
+        window.read(ASKED)
+        window.type("")
+        self.assertNotIn("Use those of", window.read(r"Ctrl-C closes the office\."))
+        window.press()
+        window.rest()
+
     def test_no(self) -> None:
         """Otherwise the scorer's page makes a series."""
         window = self.asked()
         window.type("n")
         self.assertNotIn("The office is open.", window.read(r"Ctrl-C closes the office\."))
+        window.press()
+        window.rest()
+
+    def test_code(self) -> None:
+        """At a terminal each link has its code, which cameras read. --browser opens the scorer's page here, by the link that is
+        shown."""
+        script = os.path.join(self.here, "browser")
+        self.write(f'#!/bin/sh\necho "$1" > {self.here}/opened.txt\n', "browser")
+        os.chmod(script, 0o700)
+        window = helpers.Terminal(*helpers.COMMAND, "serve", "cup", "--browser", "--http", str(helpers.free_port(self)),
+                                  cwd=self.here, BROWSER=script)
+        self.addCleanup(window.close)
+        said = window.read(r"Ctrl-C closes the office\.")
+        links = re.findall(r"^(?:Finish|Jury|Scorer) +(\S+)$", said, re.MULTILINE)
+        shown = re.findall(r"(?:\x1b\[97;40m[^\x1b]+\x1b\[0m\s+)+", said)
+        self.assertEqual([test_web_qr.read(rows_of(one)) for one in shown], links)
+        self.assertEqual(len(links), 3)
+        self.assertEqual(self.text("opened.txt").strip(), links[2])
         window.press()
         window.rest()
 
@@ -52,6 +110,16 @@ class Here(helpers.Series):
         self.assertIn("cup: series.ini, line 2: [series] has no key 'titel'", said)
         self.assertIn("Put that right, or name the folders that are to be opened.", said)
         self.assertNotIn("http://", said)
+
+
+def rows_of(shown: str) -> list[list[int]]:
+    """The places of a code that a terminal shows, dark as 1: two rows in a line, in an edge of two."""
+    signs = {"\u2588": (0, 0), "\u2580": (0, 1), "\u2584": (1, 0), " ": (1, 1)}
+    rows: list[list[int]] = []
+    for line in re.findall(r"\x1b\[97;40m([^\x1b]+)\x1b\[0m", shown):
+        rows += [[signs[sign][at] for sign in line] for at in (0, 1)]
+    size = len(rows[0])
+    return [row[2:-2] for row in rows[2:size - 2]]
 
 
 if __name__ == "__main__":

@@ -133,6 +133,25 @@ class Pushed(Web):
             self.assertIn(f'data-version="{said["version"]}"', said["page"])
             self.assertIn("<main", said["page"])
 
+    def test_within_a_second(self) -> None:
+        """What is tapped is on the phones that look at a race within a second: the best of many, since others use this computer,
+        too."""
+        finish, phone, address, took = self.device("finish"), Device(self.port, ""), "/cup/race-1.html", [60.0]
+        finish.tap("FINISH 1 GBR204")
+        helpers.until("the race's page", lambda: phone.ask("GET", address)[0] == 200)
+        stream = Stream(self.port, address)
+        self.addCleanup(stream.link.close)
+        for line in (f"{command} 1 {sail}" for command in ("FINISH", "STRIKE") for sail in SAILS[:11]):
+            began = time.monotonic()
+            self.assertEqual(finish.tap(line)[1]["outcome"], "taken")
+            # The journal is a part of the page.
+            while f'{line}"' not in stream.next().get("page", ""):
+                pass
+            took.append(time.monotonic() - began)
+            if took[-1] < 1:
+                break
+        self.assertLess(min(took), 1)
+
     def test_no_page(self) -> None:
         """There is news of pages, and of nothing else."""
         phone = Device(self.port, "")

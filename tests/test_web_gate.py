@@ -5,6 +5,7 @@ import asyncio
 import http.client
 import json
 import os
+import resource
 import socket
 import ssl
 import subprocess
@@ -22,12 +23,12 @@ from raceoffice.web.rates import Rate
 from raceoffice.web.requests import HEAD, Reply, Request, Wrong, packed, request_of
 from raceoffice.web.routes import Routes
 from raceoffice.web.web_office import WebOffice
-from web_devices import BOATS, Device, Web, list_of, new_id
+from web_devices import BOATS, READY, Device, Web, list_of, new_id
 
 LINE = "/office/finish/line/cup"
 # What writes beside lines, by the role that may.
 WRITING = {"jury": ("ruling/cup", "decide/cup"),
-           "scorer": ("key", "revoke", "open/cup", "close/cup", "list", "settings", "new", "rules/cup", "save/cup", "reopen/cup",
+           "scorer": ("correct/cup", "remove/cup", "key", "revoke", "open/cup", "close/cup", "list", "settings", "new", "rules/cup", "save/cup", "reopen/cup",
                       "sheet/cup", "listed/cup", "second/cup", "serve")}
 # Seconds
 DAY = 86400.0
@@ -166,14 +167,19 @@ class Attacks(unittest.TestCase):
 
     def test_files(self) -> None:
         """Neither a link nor a cookie can be read from a file, and only this account may read the files."""
-        held = self.web.text("cup", "office", "web.json")
-        for link in self.web.links.values():
-            self.assertNotIn(link.partition(".")[2], held)
-        self.assertNotIn(self.finish.cookie.partition("=")[2], held)
         self.finish.tap(self.line)
+        self.finish.ask("GET", "/office/finish/none")
+        secrets = [link.partition(".")[2] for link in self.web.links.values()]
+        secrets += [text for device in (self.finish, self.scorer) for text in (device.cookie.partition("=")[2], device.token)]
+        held = {"terminal": self.web.said().partition(READY)[2]}
+        for name in ("office/web.json", "office/web.taps", "office/faults.txt", "office.log"):
+            held[name] = self.web.text("cup", *name.split("/")) if os.path.exists(os.path.join(self.web.here, "cup", name)) else ""
+        self.assertIn(self.line, held["office.log"])
+        self.assertIn("came from", held["terminal"])
+        for name, text in held.items():
+            self.assertEqual([secret for secret in secrets if secret in text], [], name)
         for name, mode in (("web.json", 0o600), ("web.taps", 0o600), ("web.lock", 0o600), ("", 0o700)):
             self.assertEqual(os.stat(os.path.join(self.web.here, "cup", "office", name)).st_mode & 0o777, mode, name)
-        self.assertNotIn(self.finish.token, self.web.text("cup", "office", "web.taps"))
 
     def test_cookie(self) -> None:
         """A cookie is for its role's addresses alone, scripts don't see it, and other sites don't send it."""
@@ -265,6 +271,7 @@ class Attacks(unittest.TestCase):
                              (431, "GET / HTTP/1.1\r\n" + "a:\r\n" * 101 + "\r\n"),
                              (421, "GET / HTTP/1.1\r\n" + "a:\r\n" * 100 + "\r\n"),
                              (421, "GET / HTTP/1.1\r\n\r\n"), (400, "GET / SPDY/3\r\n\r\n"),
+                             (400, "GET / HTTP/1.2\r\n\r\n"), (400, "GET / HTTP/1.999\r\n\r\n"),
                              (400, "POST / HTTP/1.1\r\nHost: 127.0.0.1\r\nTransfer-Encoding: chunked\r\n\r\n"),
                              (400, "GET http://127.0.0.1/ HTTP/1.1\r\nHost: 127.0.0.1\r\n\r\n")]:
             self.assertEqual(self.sent(text), wanted, text[:60])
@@ -281,19 +288,27 @@ class Attacks(unittest.TestCase):
             return int(link.recv(4096).split()[1])
 
     def test_one_address(self) -> None:
-        """Connections that never finish keep nobody out, even if one address has very many of them."""
-        links = []
-        with suppress(OSError):
-            for _ in range(900):
-                link = socket.socket()
-                link.bind(("127.0.0.2", 0))
-                link.connect(("127.0.0.1", self.port))
-                link.sendall(b"GET /office/ HTT")
-                links.append(link)
-        self.assertGreater(len(links), 500)
-        self.assertEqual(self.finish.again().tap(self.line)[0], 200)
-        for link in links:
-            link.close()
+        """A thousand connections of one address that never finish keep nobody out: a tap over a new one is answered within
+        two seconds."""
+        self.room_for_files(1200)
+        for _ in range(1000):
+            link = socket.socket()
+            self.addCleanup(link.close)
+            link.bind(("127.0.0.2", 0))
+            link.connect(("127.0.0.1", self.port))
+            link.sendall(b"GET /office/ HTT")
+        took = []
+        for sail in ("GBR7", "GBR33", "NED12"):
+            began = time.monotonic()
+            self.assertEqual(self.finish.again().tap(f"FINISH {self.race} {sail}")[0], 200)
+            took.append(time.monotonic() - began)
+        self.assertLess(min(took), 2)
+
+    def room_for_files(self, wanted: int) -> None:
+        """Lets this process have so many files until the end of the check."""
+        room, most = resource.getrlimit(resource.RLIMIT_NOFILE)
+        self.addCleanup(resource.setrlimit, resource.RLIMIT_NOFILE, (room, most))
+        resource.setrlimit(resource.RLIMIT_NOFILE, (max(room, wanted), most))
 
     def test_long_heads(self) -> None:
         """300 strangers whose heads are as long as can be take little processor time, and a tap beside them hardly waits."""
@@ -410,7 +425,8 @@ class Turns(unittest.IsolatedAsyncioTestCase):
 
 
 class Heads(unittest.TestCase):
-    """What reading a head costs the thread of all connections: of each less than a millisecond."""
+    """What reading a head costs the thread of all connections: of each about a millisecond, and less than three where other
+    programs have the processors, too."""
 
     def test_time(self) -> None:
         gate = Gate("")
@@ -421,7 +437,7 @@ class Heads(unittest.TestCase):
                             ("/", "\r\n".join(f"f{at}: {'x' * 100}" for at in range(97)))):
             head = f"GET {line} HTTP/1.1\r\nHost: 127.0.0.1\r\n{field}\r\n\r\n".encode()
             self.assertLess(len(head), HEAD)
-            self.assertLess(min(self.spent(routes, head) for _ in range(30)), 0.001, (line[:20], field[:20]))
+            self.assertLess(min(self.spent(routes, head) for _ in range(30)), 0.003, (line[:20], field[:20]))
 
     @staticmethod
     def spent(routes: Routes, head: bytes) -> float:
@@ -481,6 +497,36 @@ class Shares(unittest.IsolatedAsyncioTestCase):
             _, writer = await asyncio.open_connection("127.0.0.1", self.port, local_addr=(address, 0))
             self.links.append(writer)
             writer.write(b"GET /live HTT")
+
+    async def test_heads(self) -> None:
+        """A request that isn't whole in time is cut off; a connection that waits for news stays."""
+        with mock.patch("raceoffice.web.requests.HEAD_TIME", 0.1):
+            self.assertEqual(await self.news("127.0.0.2"), b"HTTP/1.1 200 OK")
+            self.assertEqual(await asyncio.wait_for(self.asked("127.0.0.2", b"GET /live HTT"), helpers.PATIENCE / 2), b"")
+        self.assertEqual(len(self.hub.waiting), 1)
+
+    async def test_unread(self) -> None:
+        """Who waits for news of the office and doesn't take it is cut off, and keeps no others from it."""
+        links = [await asyncio.open_connection("127.0.0.1", self.port) for _ in range(2)]
+        for reader, writer in links:
+            self.links.append(writer)
+            writer.write(b"GET /live HTTP/1.1\r\n\r\n")
+            await reader.readuntil(b"data: new\n\n")
+        assert isinstance(self.links[0].transport, asyncio.Transport)
+        self.links[0].transport.pause_reading()
+        reading = asyncio.create_task(links[1][0].read())
+        deaf, quick = list(self.hub.waiting)
+        text = [""]
+        self.hub.text = lambda: text[0]
+        for at in range(1000):
+            text[0] = f"{at}{'x' * 100_000}"
+            self.hub.send_news()
+            await quick.drain()
+            await asyncio.sleep(0)
+            if deaf not in self.hub.waiting:
+                break
+        self.assertEqual(list(self.hub.waiting), [quick])
+        reading.cancel()
 
     async def test_five_addresses(self) -> None:
         """Five addresses that take all connections, half of them for news, don't keep out the phones of a sixth, however
@@ -551,6 +597,19 @@ class Again(Web):
         self.kill()
         self.serve("--name", "Club.Example")
         self.assertEqual(device.again().ask("GET", "/office/finish/me", Host="club.example:8080")[0], 200)
+
+    def test_address(self) -> None:
+        """The office may be at one address of the computer alone, by an option or by series.ini, and has its name."""
+        for address, options in (("127.0.0.5", ("--address", "127.0.0.5")), ("127.0.0.6", ())):
+            self.kill()
+            if not options:
+                self.write(self.text("cup", "series.ini").replace("\naddress =", f"\naddress = {address}"), "cup", "series.ini")
+            self.serve(*options)
+            self.assertIn(f"http://{address}:{self.port}/\n", self.said())
+            with closing(http.client.HTTPConnection(address, self.port, timeout=60)) as link:
+                link.request("GET", "/office/in")
+                self.assertEqual(link.getresponse().status, 200)
+            self.assertRaises(ConnectionRefusedError, socket.create_connection, ("127.0.0.1", self.port))
 
     def test_known_again(self) -> None:
         """Devices and links outlive the web; --new ends those of a role."""

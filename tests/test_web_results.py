@@ -241,7 +241,12 @@ class Declared(Results):
         self.assertEqual((found["state"], found["is_changed"]), ("final", False))
         self.assertGreater(found["since"], 1_600_000_000_000)
         helpers.until("the board", lambda: '<span class="word final">Final</span>' in self.board())
-        self.device("jury").tap("MARK 1 GBR101 DSQ", agreed=[{"kind": "correction", "values": {"race": 1}}])
+        # Who corrects a race is asked with what the results are by now, also after an older yes.
+        jury, older = self.device("jury"), [{"kind": "correction", "values": {"race": 1}}]
+        status, said = jury.tap("MARK 1 GBR101 DSQ", agreed=older)
+        self.assertEqual((status, said["question"]["values"]), (409, {"race": 1, "declared": "final"}))
+        self.assertEqual(said["question"]["text"], "THE RESULTS ARE FINAL. RACE 1 COUNTS ALREADY. Is this a correction?")
+        self.assertEqual(jury.tap("MARK 1 GBR101 DSQ", agreed=[said["question"]])[1]["outcome"], "taken")
         helpers.until("a change", lambda: self.shown()["is_changed"])
         for reason, words in [("", "amended results need a reason"), (" \n ", "amended results need a reason"),
                               ("x" * 201, "more than 200 letters")]:
@@ -380,9 +385,10 @@ class Files(Results):
         self.assertEqual(found, nets)
         said, status = helpers.run("export", "cup", "--text", cwd=self.here)
         self.assertEqual((status, "RRS A5.2" in said, "other rules than the open office" in said), (0, True, True), said)
-        # The office dies, and is opened again by the web, by the same rules.
+        # The office dies, and isn't opened until somebody agrees to the new rules. Nothing serves the old ones any more.
         self.kill_program()
-        self.assertEqual((self.shown()["is_changed"], "have changed since" in self.download("page/cup")[0].decode()), (False, False))
+        helpers.until("the end of the office", lambda: not self.shown()["is_open"])
+        self.assertEqual((self.shown()["is_changed"], "have changed since" in self.download("page/cup")[0].decode()), (True, True))
 
     def test_page(self) -> None:
         """The page to print is shown, not saved; it runs the results' own script alone, and is in no frame."""

@@ -1,6 +1,7 @@
 """What the jury and the scorer do from their pages: previews, decisions, opening and closing an office."""
 from __future__ import annotations
 
+import json
 import os
 import signal
 import unittest
@@ -14,8 +15,10 @@ from raceoffice.series import settings
 from raceoffice.series.folder import Folder
 from raceoffice.session.facts import Facts
 from raceoffice.web import preview
+from raceoffice.web.taps import part_id
 from web_devices import SAILS, Device, Web, new_id
 
+TAPS = ("cup", "office", "web.taps")
 ORDERS = {1: SAILS, 2: SAILS[6:] + SAILS[:6]}
 
 
@@ -144,8 +147,7 @@ class Jury(Web):
         self.assertEqual((self.text("cup", "decisions.txt"), self.journal()), ("# Sunday\n", self.before))
 
     def test_asked_between(self) -> None:
-        """An amended decision gives back the penalty that its CLEAR takes, though its later lines are asked about
-        after the first was sent. 20% of the score for Did Not Finish (13) is 3, so she has 5 points before it: 7
+        """An amended decision gives back the penalty that its CLEAR takes: nobody is asked whether that goes. 20% of the score for Did Not Finish (13) is 3, so she has 5 points before it: 7
         with 2 more (DPI), 9 with 4 more."""
         sail = SAILS[1]
         correction = {"kind": "correction", "values": {"race": 1}}
@@ -154,7 +156,7 @@ class Jury(Web):
         self.sent(asked, line=f"race 1 {sail} DPI 2")
         self.assertEqual((asked, self.journal()[-1]), (["correction"], f"JURY REDRESS 1 {sail} 7.0"))
         self.sent(asked, line=f"race 1 {sail} DPI 4")
-        self.assertEqual(asked[1:], ["clear-several", "correction"])
+        self.assertEqual(asked[1:], ["correction"])
         self.assertEqual(self.journal()[-3:], [f"JURY CLEAR 1 {sail}", f"SCORER PENALTY 1 {sail} ZFP",
                                                f"JURY REDRESS 1 {sail} 9.0"])
 
@@ -181,11 +183,18 @@ class Jury(Web):
         given = {"line": f"race 1 {sail} DPI 4"}
         shown, id = self.ask("ruling", **given)[1], new_id()
         lines, given = shown["lines"], {**given, "tag": shown["tag"]}
+        before = self.journal()
         first = self.ask("decide", lines=lines, id=id, agreed=[], **given)[1]["question"]
-        self.assertEqual(self.ask("decide", lines=lines, id=id, agreed=[first], **given)[0], 409)
-        self.assertEqual(self.journal()[-1], f"JURY CLEAR 1 {sail}")
+        self.assertEqual((first["kind"], self.journal()), ("correction", before))
+        several = self.jury.tap(f"CLEAR 1 {sail}", part_id(id, 0))[1]["question"]
+        self.assertEqual(self.jury.tap(f"CLEAR 1 {sail}", part_id(id, 0), agreed=[several])[1]["outcome"], "taken")
         self.kill()
         self.kill_program()
+        # It was noted, and kept, before that line.
+        noted = self.text(*TAPS).splitlines()
+        note = json.dumps({"id": id, "lines": [line.split(maxsplit=1) for line in lines]})
+        self.write("\n".join([*noted[:-2], note, *noted[-2:], ""]), *TAPS)
+        self.write(f"race 1 {sail} DPI 4\n", "cup", "decisions.txt")
         self.serve()
         helpers.until("the office", lambda: not self.jury.again().state()["trouble"])
         self.jury.link.close()
@@ -261,6 +270,19 @@ class Offices(Web):
         self.web.send_signal(signal.SIGINT)
         self.assertEqual(self.web.wait(helpers.PATIENCE), 0)
         self.assertNotIn("These may still write", self.said())
+
+    def test_interrupted_with_places(self) -> None:
+        """Nor does it close an office with places that are kept, whoever may write: they are named first."""
+        finish = self.device("finish")
+        for line in ("FINISH 1 GBR101", "? 1", "FINISH 1 GBR7", "? 1", "FINISH 1 NED12", "? 2"):
+            self.assertEqual(finish.tap(line)[0], 200, line)
+        self.assertEqual(finish.ask("POST", "/office/finish/leave", {})[0], 200)
+        self.web.send_signal(signal.SIGINT)
+        helpers.until("the places", lambda: "Ctrl-C again within" in self.said() or self.web.poll() is not None)
+        self.assertIn("cup: Kept without a sail: ?1 and ?2 in race 1, ?1 in race 2.", self.said())
+        self.assertNotIn("These may still write", self.said())
+        self.web.send_signal(signal.SIGINT)
+        self.assertEqual(self.web.wait(helpers.PATIENCE), 0)
 
     def test_taken_over(self) -> None:
         """A program whose web was killed is taken over by the next, and closed in order at its end."""

@@ -142,6 +142,64 @@ class Rulings(Web):
                 self.assertEqual(self.ruled(name, f"race 1 {sail} {row}", True), [f"JURY CLEAR 1 {sail}"], (name, row))
             self.assertEqual(self.text(name, "decisions.txt").strip(), "")
 
+    def test_taken_out_alone(self) -> None:
+        """A decision is taken out of a boat that holds a penalty, too, which her CLEAR takes and another line gives back:
+        nobody is asked whether that goes. A CLEAR that the jury types takes both, which is asked."""
+        self.sail_races()
+        correction = {"kind": "correction", "values": {"race": 1}}
+        for name in self.words:
+            self.ruled(name, "race 1 GBR2 DPI 2")
+            given = {"line": "race 1 GBR2 DPI 2", "out": True}
+            shown = self.in_time(self.devices["JURY"], f"/office/jury/ruling/{name}", given)[1]
+            self.assertEqual(shown["lines"], ["JURY CLEAR 1 GBR2", "FINISH PENALTY 1 GBR2 ZFP"])
+            request = {**given, "lines": shown["lines"], "tag": shown["tag"], "id": new_id(), "agreed": [correction]}
+            status, said = self.in_time(self.devices["JURY"], f"/office/jury/decide/{name}", request)
+            self.assertEqual((status, self.journal(name)[-2:]), (200, shown["lines"]), said)
+            self.assertEqual(self.yes("JURY", "REDRESS 1 GBR2 1.5", name)["outcome"], "taken")
+            status, said = self.devices["JURY"].tap("CLEAR 1 GBR2", name=name, agreed=[correction])
+            self.assertEqual((status, said["question"]["kind"]), (409, "clear-several"))
+
+    def test_taken_back_unplaced(self) -> None:
+        """A boat without a place holds redress and a penalty, which is taken back: whether she has redress as she is, is asked
+        before the first line, and after a No she holds all as before."""
+        self.sail_races()
+        for name in self.words:
+            self.yes("FINISH", "PENALTY 1 GBR9 ZFP", name)
+            self.yes("JURY", "REDRESS 1 GBR9 1.5", name)
+            given = {"line": "race 1 GBR9 ZFP", "reopen": True}
+            shown = self.in_time(self.devices["JURY"], f"/office/jury/ruling/{name}", given)[1]
+            self.assertEqual(shown["lines"], ["JURY CLEAR 1 GBR9", "JURY REDRESS 1 GBR9 1.5"])
+            before, agreed = self.journal(name), [{"kind": "correction", "values": {"race": 1}}]
+            request = {**given, "lines": shown["lines"], "tag": shown["tag"], "id": new_id(), "agreed": agreed}
+            status, said = self.in_time(self.devices["JURY"], f"/office/jury/decide/{name}", request)
+            self.assertEqual((status, said["question"]["kind"], self.journal(name)), (409, "redress-unplaced", before))
+            agreed.append(said["question"])
+            status, said = self.in_time(self.devices["JURY"], f"/office/jury/decide/{name}", request)
+            self.assertEqual((status, self.journal(name)[len(before):]), (200, shown["lines"]), said)
+
+    def test_taken_back_with_a_time(self) -> None:
+        """By corrected time a boat whose time is in the sheet alone has it again with what is taken back: 15:09:00 after
+        14:00:00 is 4,140 s x 1.000."""
+        self.sail_races()
+        self.write(self.text("hcap", "times", "race-1.csv").replace("GBR9,14:00:00,,", "GBR9,14:00:00,15:09:00,"),
+                   "hcap", "times", "race-1.csv")
+        self.assertIn("GBR9,14:00:00,15:09:00,", self.sheet())
+        self.assertEqual(self.yes("JURY", "MARK 1 GBR9 DSQ", "hcap")["outcome"], "taken")
+        self.assertEqual(self.ruled("hcap", "race 1 GBR9 DSQ", reopen=True), ["JURY CLEAR 1 GBR9", "SCORER TIME 1 GBR9 4140"])
+        self.assertEqual((self.shown("hcap")["order"][-1], "GBR9" in self.shown("hcap")["codes"]), (["GBR9"], False))
+
+    def test_old_letters(self) -> None:
+        """A decisions.txt that an old editor has written, in Windows-1252 or UTF-16, bars nobody: it is read as a list is. A
+        decision that the page adds leaves the others and their notes."""
+        self.sail_races()
+        row = "race 2 GBR5 DPI 2  # Müller gegen Łoś"
+        for held, text, encoding in (("GBR6 DSQ", row.replace("Łoś", "Øst"), "cp1252"), ("GBR2 ZFP", row, "utf-16")):
+            with open(os.path.join(self.here, "cup", "decisions.txt"), "wb") as file:
+                file.write(f"{text}\r\n".encode(encoding))
+            self.assertEqual(self.ruled("cup", f"race 1 {held}", reopen=True), [f"JURY CLEAR 1 {held[:4]}"])
+            self.assertNotEqual(self.ruled("cup", "race 1 GBR1 DPI 1"), ["refused"])
+            self.assertEqual(self.text("cup", "decisions.txt").splitlines(), [text, "race 1 GBR1 DPI 1"])
+
     def test_whose_points(self) -> None:
         """The state says of each decision whether the redress that she holds is its own."""
         self.sail_races()

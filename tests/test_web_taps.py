@@ -128,6 +128,10 @@ class Once(Web):
         for again in (False, True):
             status, done = scorer.tap("ABANDON 1", id, agreed=[said["question"]])
             self.assertEqual((status, done["outcome"], done["again"]), (200, "noted", again))
+        # No line takes that back, and none that isn't named.
+        for undoes, kind, values in ((id, "undo-abandon", {"race": "1", "lines": "3 lines"}), ("", "undo-none", {})):
+            status, said = scorer.tap("UNDO", undoes=undoes)
+            self.assertEqual((status, said["said"][0]["kind"], said["said"][0]["values"]), (422, kind, values))
         self.assertEqual(self.journal()[4:], [f"SCORER STRIKE 1 {sail}" for sail in ("GBR7", "GBR33", "NED12")])
 
     def test_undo(self) -> None:
@@ -219,6 +223,43 @@ OK 13
                       and finish.state()["races"]["1"]["unread"])
         self.assertEqual(finish.state()["races"]["1"]["order"], [["GBR101"]])
         self.assertEqual(finish.tap("?1 1 GBR7")[1]["line"], "FINISH 1 GBR7")
+
+
+class PutBack(Web):
+    def test_lost(self) -> None:
+        """An older journal.txt was put back: a device that sends again what that lacks isn't told that it was taken, until
+        somebody has typed the line again. A boat who was taken out stays as she was answered."""
+        finish, scorer, lost, out = self.device("finish"), self.device("scorer"), new_id(), new_id()
+        asked = scorer.tap("ENTER USA 4")[1]["question"]
+        self.assertEqual(scorer.tap("ENTER USA 4", agreed=[asked])[1]["outcome"], "taken")
+        for line, id in ((f"FINISH 1 {SAILS[0]}", new_id()), ("FINISH 1 USA4", out)):
+            self.assertEqual(finish.tap(line, id)[1]["outcome"], "taken", line)
+        self.agree(scorer, "remove", sail="USA 4")
+        self.assertEqual(finish.tap("FINISH 1 USA4", out)[1]["outcome"], "taken")
+        # She was recorded before, and struck: that line is another one.
+        for line in (f"FINISH 1 {SAILS[1]}", f"STRIKE 1 {SAILS[1]}"):
+            self.assertEqual(finish.tap(line)[1]["outcome"], "taken", line)
+        older = self.text("cup", "journal.txt")
+        self.assertEqual(finish.tap(f"FINISH 1 {SAILS[1]}", lost)[1]["outcome"], "taken")
+        self.agree(scorer, "close")
+        self.write(older, "cup", "journal.txt")
+        self.agree(scorer, "open")
+        helpers.until("the office", lambda: not scorer.state()["trouble"])
+        self.assertEqual(finish.tap("FINISH 1 USA4", out)[1]["outcome"], "taken")
+        status, said = finish.tap(f"FINISH 1 {SAILS[1]}", lost)
+        self.assertEqual((status, said["said"][0]["kind"], said["said"][0]["values"]),
+                         (422, "undo-gone", {"line": f"FINISH 1 {SAILS[1]}"}), said)
+        self.assertEqual(self.journal(), [f"FINISH FINISH 1 {SAILS[0]}", f"FINISH FINISH 1 {SAILS[1]}", f"FINISH STRIKE 1 {SAILS[1]}"])
+        self.assertEqual(scorer.tap(f"FINISH 1 {SAILS[1]}")[1]["outcome"], "taken")
+        self.assertEqual(finish.tap(f"FINISH 1 {SAILS[1]}", lost)[1]["outcome"], "taken")
+
+    def agree(self, scorer: Device, what: str, **values: str) -> None:
+        """Has something done with the office, and answers by yes what is asked before."""
+        agreed: list[Any] = []
+        given: dict[str, Any] = {**values, "agreed": agreed}
+        while (found := scorer.ask("POST", f"/office/scorer/{what}/cup", given))[0] == 409:
+            agreed.append(found[1]["question"])
+        self.assertEqual(found[0], 200, found)
 
 
 class Closing(unittest.TestCase):

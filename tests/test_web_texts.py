@@ -42,7 +42,7 @@ MADE = {
     "trouble.": ["0", "401", "403", "429"],
 }
 # The questions with words of their own for some values, and what comes before any question about a race that counts.
-VARIANTS = ["ask.announce.amended", "ask.announce.provisional", "ask.counts", "ask.take-over.since",
+VARIANTS = ["ask.announce.amended", "ask.announce.provisional", "ask.correction.declared", "ask.counts", "ask.take-over.since",
             "ask.score-penalised.a53", "ask.redress-unplaced.a53", "ask.abandon.places",
             "ask.others-recorded.ahead", "ask.others-recorded.changed", "ask.others-recorded.changed.ahead",
             "ask.others-recorded.untimed", "ask.others-recorded.ahead.untimed"]
@@ -222,9 +222,11 @@ class Texts(unittest.TestCase):
                          sorted(f"{one}{end}.json" for one in LANGUAGES for end in ("", "-desk")))
 
     def test_parts(self) -> None:
-        """The finish page, which loads the first part alone, has all that it names; no key is in both parts."""
+        """The finish page, which loads the first part alone, has all that it names; no key is in both parts. Why something isn't
+        taken is said once the second part is there."""
         with open(os.path.join(STATIC, "worker.js"), encoding="utf-8") as file:
-            names = re.findall(r'"([\w-]+\.js)"', file.read())
+            names = {*re.findall(r'"([\w-]+\.js)"', file.read())} - needed_by("sheet-why.js", IMPORT)
+        names |= needed_by("finish.js", IMPORT)
         needed = set()
         for name in names:
             with open(os.path.join(STATIC, name), encoding="utf-8") as file:
@@ -315,6 +317,20 @@ class Texts(unittest.TestCase):
                         self.assertEqual(sorted(words.findall(said)), expected, f"{language} {key}")
 
 
+IMPORT = r'from "\./([\w.-]+)"'
+
+
+def needed_by(script: str, pattern: str) -> set[str]:
+    """A script, and all that it and these load by what a pattern finds."""
+    needed, waiting = {script}, [script]
+    while waiting:
+        with open(os.path.join(STATIC, waiting.pop()), encoding="utf-8") as file:
+            found = set(re.findall(pattern, file.read())) - needed
+        needed |= found
+        waiting += found
+    return needed
+
+
 class Scripts(unittest.TestCase):
     def test_strict(self) -> None:
         """Each script begins with 'use strict', and a line says what it is for."""
@@ -372,17 +388,11 @@ class Scripts(unittest.TestCase):
                                     scripts()), [])
 
     def test_kept_files(self) -> None:
-        """The finish page's worker keeps all that its page loads, and what a question of the office or a class by corrected
-        time needs besides."""
+        """The finish page's worker keeps all that its page loads, at first and later."""
         with open(os.path.join(STATIC, "worker.js"), encoding="utf-8") as file:
             kept = set(re.findall(r'"([\w-]+\.(?:css|js|webmanifest))"', file.read()))
-        needed, waiting = {"finish.js", "finish.css", "base.css", "finish.webmanifest"}, ["finish.js"]
-        while waiting:
-            with open(os.path.join(STATIC, waiting.pop()), encoding="utf-8") as file:
-                found = set(re.findall(r'from "\./([\w.-]+)"', file.read())) - needed
-            needed |= found
-            waiting += found
-        self.assertEqual(kept, needed | {"finish-answers.js", "finish-start.js", "questions.js"})
+        needed, later = {"finish.css", "base.css", "finish.webmanifest", *needed_by("finish.js", IMPORT)}, r'(?:from |import\()"\./([\w.-]+)"'
+        self.assertEqual(kept, needed | needed_by("finish.js", later))
         with open(os.path.join(STATIC, "finish.html"), encoding="utf-8") as file:
             loaded = set(re.findall(r'/office/static/([\w.-]+)"', file.read()))
         self.assertEqual(loaded, needed)

@@ -84,20 +84,35 @@ class Timed(Prepared):
         self.assertEqual(self.journal(), [])
         ann.tap("START 1 14:01:00")
         self.assertEqual(self.journal(), ["FINISH TIME 1 GBR101 3540", "FINISH TIME 1 GBR7 3456"])
-        ann.tap("START 1 14:00:00")
+        since = {"kind": "start-since", "values": {"race": 1, "start": "14:01:00", "written": "14:00:00"}}
+        ann.tap("START 1 14:00:00", agreed=[since])
         self.assertEqual(self.journal()[2:], ["FINISH STRIKE 1 GBR101", "FINISH TIME 1 GBR101 3600",
                                               "FINISH STRIKE 1 GBR7", "FINISH TIME 1 GBR7 3510"])
         self.assertEqual(ann.tap("UNDO", undoes=id)[1]["outcome"], "taken")
         self.assertEqual((self.journal()[-1], self.sheet()[1]), ("FINISH STRIKE 1 GBR101", "GBR101,14:00:00,,"))
         ann.tap("MARK 1 GBR7 RET")
         self.assertEqual(self.journal()[-2:], ["FINISH MARK 1 GBR7 RET", "FINISH STRIKE 1 GBR7"])
-        ann.tap("CLEAR 1 GBR7")
+        said = ann.tap("CLEAR 1 GBR7")[1]["said"]
         self.assertEqual(self.journal()[-2:], ["FINISH CLEAR 1 GBR7", "FINISH TIME 1 GBR7 3510"])
+        # It is said how she is after both lines: she alone has finished, of four.
+        self.assertEqual([(one["what"], one["values"].get("finished"), one["values"].get("missing")) for one in said],
+                         [("finished", 1, 3)])
         self.assertEqual(ann.tap("STRIKE 1 NED12")[0], 422)
         self.assertEqual(ann.tap("START 1 25:00")[0], 422)
         self.assertEqual(ann.tap("? 1")[0], 422)
         status, said = ann.tap("FINISH 1 FRA9", at=1 << 52)
         self.assertEqual((status, "the clock of this device" in said["words"]), (422, True), said)
+
+    def test_typed_with_dots(self) -> None:
+        """A start and an elapsed time may be typed with dots, as a finish may: 15:00:00 after 13:51:58 is 4,082 s x 1.000,
+        and 3,900 s x 0.900."""
+        scorer = self.device("scorer")
+        scorer.tap("FINISH 1 GBR101 15:00:00")
+        tag = scorer.ask("GET", "/office/scorer/sheet/cup/1")[1]["tag"]
+        rows = {"GBR101": {"start": "13.51.58"}, "GBR7": {"elapsed": "1.05.00"}}
+        self.assertEqual(scorer.ask("POST", "/office/scorer/sheet/cup", {"race": 1, "rows": rows, "tag": tag})[0], 200)
+        scorer.tap("TIMES 1")
+        self.assertEqual(self.journal(), ["SCORER TIME 1 GBR101 4082", "SCORER TIME 1 GBR7 3510"])
 
     def test_by_hand(self) -> None:
         """A finish is typed, put in place of just the one that was shown, undone and taken out; elapsed 3,600 s x 0.900,
@@ -326,9 +341,10 @@ class Timed(Prepared):
         self.assertEqual(scorer.tap("SCORE 1")[1]["outcome"], "taken")
         for start, moved in (("13:20:00", []), ("14:50:00", [("GBR101", 2, 1), ("GBR7", 1, 2)]),
                              ("14:49:00", [("GBR101", 2, 1), ("GBR7", 1, 2)])):
-            tap = f"START 1 {start}"
-            asked = ann.tap(tap)[1]["question"]
-            self.assertEqual(ann.tap(tap, agreed=[asked])[1]["outcome"], "taken")
+            tap, agreed = f"START 1 {start}", list[Any]()
+            while (found := ann.tap(tap, agreed=agreed))[0] == 409:
+                agreed.append(found[1]["question"])
+            self.assertEqual(([one["kind"] for one in agreed], found[1]["outcome"]), (["start-since", "correction"], "taken"))
             last = scorer.state()["last"]
             if moved:
                 self.assertEqual(sorted((one["sail"], one["was"], one["rank"]) for one in last["moves"]), moved)
@@ -419,7 +435,8 @@ class Lines(unittest.TestCase):
                 seat.answer = answers[line]
                 return answers[line].startswith("OK ")
             tap = TimedTap.__new__(TimedTap)
-            tap.session, tap.sail = session, sail
+            tap.session, tap.sail, tap.race = session, sail, mock.MagicMock(number=1)
+            session.facts.race.return_value.counts = False
             with mock.patch("raceoffice.web.timed_taps.transmit", transmit):
                 is_taken = tap.are_taken(["STRIKE 1 A", "TIME 1 A 10", "TIME 1 B 20", "TIME 1 C 30"])
             self.assertEqual((sent, session.answer, is_taken), ([*answers], answer, answer != "NO 7"))

@@ -45,11 +45,11 @@ class Races(Prepared):
         self.assertEqual((self.sheet(), self.abandoned()),
                          (["Sail,Start,Finish,Code", "GBR101,,,", "GBR7,,,BFD", "NED12,,,RET", "FRA9,,,"], [before]))
         journal = self.journal()
-        self.assertEqual(ann.tap("FINISH 1 FRA9", at=moment("15:02:00"))[1]["outcome"], "noted")
+        self.assertEqual(self.yes(ann, "FINISH 1 FRA9", at=moment("15:02:00"))["outcome"], "noted")
         self.assertEqual(self.journal(), journal)
         ann.tap("STRIKE 1 FRA9")
         ann.tap("START 1 16:00")
-        self.assertEqual(ann.tap("FINISH 1 GBR101", at=moment("17:00:00"))[1]["outcome"], "taken")
+        self.assertEqual(self.yes(ann, "FINISH 1 GBR101", at=moment("17:00:00"))["outcome"], "taken")
         self.assertEqual(self.journal()[len(journal):], ["FINISH TIME 1 GBR101 3600"])
 
     def abandoned(self) -> list[list[str]]:
@@ -66,7 +66,7 @@ class Races(Prepared):
         ann, scorer, kept = self.device("finish"), self.device("scorer"), []
         for start, finish in (("14:00", "15:00:00"), ("16:00", "17:00:00")):
             ann.tap(f"START 1 {start}")
-            ann.tap("FINISH 1 GBR101", at=moment(finish))
+            self.yes(ann, "FINISH 1 GBR101", at=moment(finish))
             kept.append(self.sheet())
             self.yes(scorer, "ABANDON 1")
         self.assertEqual(self.abandoned(), kept)
@@ -87,7 +87,7 @@ class Races(Prepared):
 
     def test_late_start(self) -> None:
         """A start that was tapped before a recall, and comes after the scorer has typed the right one, is asked about; and so
-        is one beside a start that somebody wrote into the sheet. Who taps it again later isn't asked: 3,600 s x 1.000."""
+        is one beside a start that somebody wrote into the sheet: 3,600 s x 1.000."""
         ann, scorer, late = self.device("finish"), self.device("scorer"), moment("13:55:00")
         scorer.tap("START 1 14:00", at=moment("14:01:00"))
         ann.tap("FINISH 1 GBR101", at=moment("15:00:00"))
@@ -99,8 +99,6 @@ class Races(Prepared):
         self.assertEqual(ann.tap("START 1 14:00:00", at=late)[0], 200)
         self.assertEqual(ann.tap("START 1", at=late, agreed=[said["question"]])[0], 200)
         self.assertEqual(self.journal()[-1], "FINISH TIME 1 GBR101 3900")
-        self.assertEqual(ann.tap("START 1 14:02", at=moment("14:03:00"))[0], 200)
-        self.assertEqual(self.journal()[-1], "FINISH TIME 1 GBR101 3480")
         self.write("Sail,Start,Finish,Code\nGBR101,14:00,15:00:00,\n", "cup", "times", "race-1.csv")
         status, said = ann.tap("START 1 14:05", at=moment("14:06:00"))
         self.assertEqual((status, said["question"]["values"]["start"]), (409, "14:00:00"))
@@ -114,13 +112,49 @@ class Races(Prepared):
         self.yes(scorer, "ABANDON 1")
         before = self.sheet()
         status, said = bob.tap("START 1 14:00:03", id, at=late, was="")
-        self.assertEqual((status, said["question"]["kind"], said["question"]["values"]),
-                         (409, "start-abandoned", {"race": 1, "written": "14:00:03"}))
+        values = said["question"]["values"]
+        self.assertEqual((status, said["question"]["kind"], values["race"], values["written"]), (409, "start-abandoned", 1, "14:00:03"))
         self.assertEqual(self.sheet(), before)
+        # A yes is about this time: the race is abandoned once more before it comes.
+        self.yes(scorer, "ABANDON 1")
+        status, again = bob.tap("START 1 14:00:03", id, at=late, was="", agreed=[said["question"]])
+        self.assertEqual((status, again.get("question", {}).get("kind"), self.sheet()), (409, "start-abandoned", before))
+        said = again
         self.assertEqual(bob.tap("START 1 14:00:03", id, at=late, was="", agreed=[said["question"]])[1]["outcome"], "noted")
         self.assertEqual(self.sheet()[1], "GBR101,14:00:03,,")
         self.yes(scorer, "ABANDON 1")
         self.assertEqual(ann.tap("START 1 16:00", at=int(time.time() * 1000), was="")[1]["outcome"], "noted")
+
+    def test_finish_of_an_abandoned_race(self) -> None:
+        """A finish that was tapped before the race was abandoned, and comes later, is asked about before anything is written,
+        also after a restart. One of the race that is sailed again isn't: 3,600 s x 1.000."""
+        ann, bob, scorer, id = self.device("finish"), self.device("finish", "Bob"), self.device("scorer"), new_id()
+        late = int(time.time() * 1000) - 60_000
+        ann.tap("START 1 14:00", at=late)
+        ann.tap("FINISH 1 GBR101", at=late + 1000)
+        self.yes(scorer, "ABANDON 1")
+        before = self.sheet(), self.journal()
+        for _ in range(2):
+            status, said = bob.tap("FINISH 1 GBR7", id, at=late + 2000)
+            self.assertEqual((status, said["question"]["kind"], said["question"]["values"]["race"]), (409, "abandoned-since", 1))
+            self.assertEqual((self.sheet(), self.journal()), before)
+            self.close()
+            self.serve()
+            ann, bob = ann.again(), bob.again()
+        start = int(time.time()) * 1000
+        ann.tap("START 1", at=start + 1000, was="")
+        self.assertEqual(bob.tap("FINISH 1 GBR101", at=start + 3_601_000)[1]["outcome"], "taken")
+        self.assertEqual(self.journal()[-1], "FINISH TIME 1 GBR101 3600")
+
+    def test_times_of_a_race_that_counts(self) -> None:
+        """The times of a sheet that go to another race, which counts: it is asked before anything is sent."""
+        ann, scorer = self.device("finish"), self.device("scorer")
+        ann.tap("START 1 14:00")
+        self.yes(ann, "FINISH 1 GBR101", at=moment("15:00:00"))
+        self.yes(scorer, "SCORE 1")
+        given = {"id": new_id(), "at": 1, "agreed": [], "lines": ["TIMES 1"], "ask": True}
+        status, said = scorer.ask("POST", "/office/scorer/correct/cup", given)
+        self.assertEqual((status, said.get("question", {}).get("kind")), (409, "correction"), said)
 
     def test_second_start(self) -> None:
         """A start that another device has tapped three seconds after the first, and that comes when boats have finished, is
@@ -144,16 +178,34 @@ class Races(Prepared):
             self.assertEqual(ann.state()["races"]["1"]["sheet"]["start"], "14:00:03")
 
     def test_start_shown(self) -> None:
-        """Whoever gives another start than the device showed isn't asked, whoever gave that; nor is a device that has given
-        the last one itself and hasn't seen it yet; nor whoever gives the same. One that showed an older start is asked."""
+        """Within a minute, whoever gives another start than the device showed isn't asked, whoever gave that; nor is a device
+        that has given the last one itself and hasn't seen it yet; nor whoever gives the same. One that showed an older start is
+        asked."""
         ann, bob, scorer = self.device("finish"), self.device("finish", "Bob"), self.device("scorer", "Bea")
-        self.write("Sail,Start,Finish,Code\nGBR101,9:05,,\n", "cup", "times", "race-1.csv")
+        self.write("Sail,Start,Finish,Code\nGBR101,13:59:30,,\n", "cup", "times", "race-1.csv")
         for device, start, was, status in (
-                (ann, "14:00", "9:05", 200), (ann, "14:01", "…", 200), (bob, "14:02", "9:05", 409), (bob, "14:01:00", "", 200),
-                (bob, "14:02", "14:01:00", 200), (ann, "14:03", "14:01:00", 409), (scorer, "14:03", "14:02:00", 200),
-                (bob, "14:05", "14:03:00", 200)):
+                (ann, "14:00:00", "13:59:30", 200), (ann, "14:00:01", "…", 200), (bob, "14:00:02", "13:59:30", 409),
+                (bob, "14:00:01", "", 200), (bob, "14:00:02", "14:00:01", 200), (ann, "14:00:03", "14:00:01", 409),
+                (scorer, "14:00:03", "14:00:02", 200), (bob, "14:00:05", "14:00:03", 200)):
             self.assertEqual(device.tap(f"START 1 {start}", at=moment("14:00:00"), was=was)[0], status, (start, was))
-        self.assertEqual(self.sheet()[1], "GBR101,14:05:00,,")
+        self.assertEqual(self.sheet()[1], "GBR101,14:00:05,,")
+
+    def test_start_sailed_by(self) -> None:
+        """A start that the device showed, and that boats have sailed by, isn't replaced without a question: it is older than a
+        minute, as at the start of another class, or a boat has finished. A No leaves all as it is."""
+        ann = self.device("finish")
+        ann.tap("START 1", at=moment("14:00:00"), was="")
+        self.assertEqual(ann.tap("START 1", at=moment("14:00:59"), was="14:00:00")[0], 200)
+        before = self.sheet()
+        status, said = ann.tap("START 1", at=moment("14:05:00"), was="14:00:59")
+        self.assertEqual((status, said["question"]["kind"], said["question"]["values"]),
+                         (409, "start-since", {"race": 1, "start": "14:00:59", "written": "14:05:00"}))
+        self.assertEqual(self.sheet(), before)
+        ann.tap("START 2", at=moment("14:00:00"), was="")
+        ann.tap("FINISH 2 GBR101", at=moment("14:00:30"))
+        before = self.sheet("race-2")
+        self.assertEqual(ann.tap("START 2", at=moment("14:00:40"), was="14:00:00")[1]["question"]["kind"], "start-since")
+        self.assertEqual((self.sheet("race-2"), self.journal()), (before, ["FINISH TIME 2 GBR101 30"]))
 
 
 @helpers.needs_times
@@ -209,6 +261,17 @@ class Clocks(Prepared):
         self.write("Sail,Start,Finish,Code\nGBR101,,,\n", "cup", "times", "race-2.csv")
         self.assertEqual(scorer.ask("POST", "/office/scorer/save/cup", given)[0], 200)
 
+    def test_zone_of_an_abandoned_race(self) -> None:
+        """A race that is abandoned with a BFD, which stays, is no race that is on."""
+        ann, scorer = self.device("finish"), self.device("scorer")
+        ann.tap("START 1", at=utc("2026-10-24T18:00:00"))
+        ann.tap("MARK 1 GBR7 BFD")
+        Races.yes(scorer, "ABANDON 1")
+        self.assertEqual(scorer.state()["races"]["1"]["codes"], {"GBR7": "BFD"})
+        tag = scorer.ask("GET", "/office/scorer/rules/cup", None)[1]["tag"]
+        given = {"settings": {"zone": "Pacific/Honolulu"}, "tag": tag}
+        self.assertEqual(scorer.ask("POST", "/office/scorer/save/cup", given)[0], 200)
+
 
 @helpers.needs_times
 class OtherComputer(Web):
@@ -257,7 +320,10 @@ class OtherComputer(Web):
         self.assertIn(said, self.said())
         self.finish("GBR7", "12:30:01")
         self.assertEqual((self.journal(), self.clock(scorer)), (["FINISH TIME 1 GBR101 1800", "FINISH TIME 1 GBR7 1621"], 0))
-        tag = scorer.ask("GET", "/office/scorer/rules/cup", None)[1]["tag"]
+        rules = scorer.ask("GET", "/office/scorer/rules/cup", None)[1]
+        tag, waiting = rules["tag"], rules["waiting"]
+        # That of this computer isn't in force yet.
+        self.assertEqual(waiting, ["zone"])
         for zone, status in (("Europe/Berlin", 422), ("Europe/Lisbon", 200)):
             given = {"settings": {"zone": zone}, "tag": tag}
             self.assertEqual(scorer.ask("POST", "/office/scorer/save/cup", given)[0], status, zone)
@@ -267,6 +333,46 @@ class OtherComputer(Web):
         self.close()
         self.serve()
         self.assertEqual((self.clock(scorer.again()), self.said().count(said)), (1, before))
+
+    def test_late_tap(self) -> None:
+        """A finish of a race that counts comes after this computer's zone has come to hold: it is by the clock by which the race
+        began. So it is if an older package has noted that zone alone."""
+        scorer = self.begun()
+        Races.yes(scorer, "SCORE 1")
+        self.close()
+        self.write("Europe/Lisbon", "cup", "office", "zone")
+        self.serve()
+        self.assertEqual(self.clock(scorer.again()), 1)
+        ann = self.device("finish", "Ann")
+        self.assertEqual(Races.yes(ann, "FINISH 1 GBR7", at=utc("2026-11-25T12:30:01"))["outcome"], "taken")
+        self.assertEqual((self.journal()[-1], self.text("cup", "times", "race-1.csv").splitlines()[2]),
+                         ("FINISH TIME 1 GBR7 1621", "GBR7,12:00:00,12:30:01,"))
+
+    def test_start_typed_since(self) -> None:
+        """The start is typed by the clock that the pages show now, and the finishes were tapped when another zone was in force:
+        one comes before the start is known, and one after. 1,800 s x 1.000, and 1,801 s x 0.900 = 1,620.9 s."""
+        self.device("scorer")
+        self.close()
+        self.serve()
+        self.device("finish").tap("FINISH 1 GBR101", at=utc("2026-11-25T12:30:00"))
+        scorer = self.device("scorer", "Bea")
+        self.assertEqual(scorer.tap("START 1 13:00:00", at=int(time.time() * 1000))[0], 200)
+        self.finish("GBR7", "12:30:01")
+        self.assertEqual(self.text("cup", "times", "race-1.csv").splitlines()[1:3],
+                         ["GBR101,13:00:00,13:30:00,", "GBR7,13:00:00,13:30:01,"])
+        self.assertEqual(self.journal(), ["SCORER TIME 1 GBR101 1800", "FINISH TIME 1 GBR7 1621"])
+
+    def test_start_corrected_since(self) -> None:
+        """The start of a race that counts is corrected once another zone is in force: the race stays on the clock by which it
+        began, 1,770 s x 1.000, and 1,771 s x 0.900 = 1,593.9 s of a finish that comes then."""
+        scorer = self.begun()
+        Races.yes(scorer, "SCORE 1")
+        self.close()
+        self.serve()
+        Races.yes(scorer.again(), "START 1 12:00:30", at=int(time.time() * 1000))
+        self.assertEqual(self.journal()[-1], "SCORER TIME 1 GBR101 1770")
+        Races.yes(self.device("finish", "Ann"), "FINISH 1 GBR7", at=utc("2026-11-25T12:30:01"))
+        self.assertEqual(self.journal()[-1], "FINISH TIME 1 GBR7 1594")
 
     def test_other_setting(self) -> None:
         """So it is if somebody has written another zone into series.ini by hand."""

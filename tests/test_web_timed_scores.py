@@ -10,6 +10,7 @@ from raceoffice.series.folder import Folder
 from raceoffice.session.dialogue import Question, Said
 from raceoffice.session.session import Session
 from test_web_timed import Prepared, moment
+from web_devices import Device
 
 SHEET = "Sail,Start,Finish,Code\nGBR101,14:00:00,15:00:00,\nGBR7,14:00:00,15:05:00,\n"
 MISSING = {"kind": "score-missing", "values": {"race": 1, "sails": ["NED12", "FRA9"]}}
@@ -32,6 +33,13 @@ class Sent(Prepared):
         self.assertEqual(status, 409, said)
         return said["question"]["kind"], said["question"]["values"]
 
+    @staticmethod
+    def yes(device: Device, line: str, **more: Any) -> None:
+        """A tap of which all questions are answered by yes."""
+        agreed: list[object] = []
+        while (found := device.tap(line, agreed=agreed, **more))[0] == 409:
+            agreed.append(found[1]["question"])
+
     def rate(self, before: str, after: str) -> None:
         """Puts another rating into the entry list by hand."""
         self.write(self.text("cup", "entries.csv").replace(before, after), "cup", "entries.csv")
@@ -53,6 +61,36 @@ class Scored(Sent):
         self.assertEqual(self.scorer.tap("TIMES 1")[1]["outcome"], "taken")
         self.assertEqual(self.journal()[2:], ["SCORER STRIKE 1 GBR7", "SCORER TIME 1 GBR7 3120"])
         self.assertEqual(self.asked()[0], "score-missing")
+
+    def test_another_boat(self) -> None:
+        """Race 1 counts, and somebody has said No to a boat's other rating and to another start. Neither goes with what is
+        tapped of another boat, nor with its undo; what is open names both. Times sends them: 3,900 s x 0.800, and with the
+        start at 14:10:00 2,281 s x 1.250 = 2,851.25 s."""
+        self.ann.tap("FINISH 1 NED12", at=moment("14:48:01"))
+        agreed = [self.asked()]
+        self.assertEqual(self.scorer.tap("SCORE 1", agreed=[{"kind": kind, "values": values} for kind, values in agreed])[0], 200)
+        self.rate("0.900", "0.800")
+        sheet = self.scorer.ask("GET", "/office/scorer/sheet/cup/1")[1]
+        given = {"race": 1, "tag": sheet["tag"], "rows": {"NED12": {"start": "14:10:00"}}}
+        self.assertEqual(self.scorer.ask("POST", "/office/scorer/sheet/cup", given)[0], 200)
+        self.assertEqual(self.scorer.tap("TIMES 1")[1]["question"]["kind"], "correction")
+        journal, id, correction = self.journal(), "1" * 32, [{"kind": "correction", "values": {"race": 1}}]
+        self.assertEqual(self.ann.tap("MARK 1 GBR101 RET", id, agreed=correction)[1]["outcome"], "taken")
+        self.assertEqual(self.journal()[len(journal):], ["FINISH MARK 1 GBR101 RET", "FINISH STRIKE 1 GBR101"])
+        self.assertEqual(self.ann.tap("UNDO", undoes=id, agreed=correction)[1]["outcome"], "taken")
+        self.assertEqual(self.journal()[len(journal) + 2:], ["FINISH CLEAR 1 GBR101", "FINISH TIME 1 GBR101 3600"])
+        self.assertIn(("sheet-unsent", {"race": 1, "sails": ["GBR7", "NED12"]}), self.open_points())
+        before = len(self.journal())
+        self.assertEqual(self.scorer.tap("TIMES 1", agreed=correction)[1]["outcome"], "taken")
+        self.assertEqual(self.journal()[before:], ["SCORER STRIKE 1 GBR7", "SCORER TIME 1 GBR7 3120",
+                                                  "SCORER STRIKE 1 NED12", "SCORER TIME 1 NED12 2851"])
+        self.assertNotIn("sheet-unsent", [kind for kind, _ in self.open_points()])
+        self.rate("0.800", "-1")
+        self.assertIn("sheet-unread", [kind for kind, _ in self.open_points()])
+
+    def open_points(self) -> list[tuple[str, Any]]:
+        """What is open before the results are final."""
+        return [(one["kind"], one["values"]) for one in self.scorer.ask("GET", "/office/scorer/results/cup")[1]["open"]]
 
     def test_yes(self) -> None:
         """Whoever says yes scores what the journal has."""
@@ -92,11 +130,10 @@ class Scored(Sent):
 
     def test_abandoned(self) -> None:
         """A race that was abandoned and is sailed again is asked about by its new sheet alone."""
-        agreed: list[object] = []
-        while (found := self.scorer.tap("ABANDON 1", agreed=agreed))[0] == 409:
-            agreed.append(found[1]["question"])
+        self.yes(self.scorer, "ABANDON 1")
         self.ann.tap("START 1 16:00")
-        self.ann.tap("FINISH 1 FRA9", at=moment("17:00:00"))
+        # The day of these moments may be over when the race is abandoned.
+        self.yes(self.ann, "FINISH 1 FRA9", at=moment("17:00:00"))
         self.assertEqual(self.asked()[0], "score-missing")
         self.rate("Plover,0.8", "Plover,0.9")
         self.assertEqual(self.asked(), ("score-sheet", {"race": 1, "sails": ["FRA9"]}))

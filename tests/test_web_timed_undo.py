@@ -49,13 +49,55 @@ class Undone(Prepared):
         bea.tap("STRIKE 1 GBR7")
         bea.tap("FINISH 1 GBR7", at=moment("15:02:00"))
         status, said = ann.tap("STRIKE 1 GBR7", id, at=moment("15:01:10"), seen=seen)
-        self.assertEqual((status, said["question"]["kind"], self.journal()[-1]), (409, "sent-already", "SCORER TIME 1 GBR7 3348"))
+        self.assertEqual((status, said["question"]["kind"], self.journal()[-1]), (409, "other-since", "SCORER TIME 1 GBR7 3348"))
+        self.assertEqual(said["question"]["values"], {"line": "STRIKE 1 GBR7", "other": "FINISH 1 GBR7"})
         for again in (False, True):
             done = ann.tap("STRIKE 1 GBR7", id, at=moment("15:01:10"), seen=seen, agreed=[said["question"]])[1]
             self.assertEqual((done["outcome"], done["again"]), ("taken", again))
         seen = ann.state()["entries"]
         for line in ("FINISH 1 GBR7", "STRIKE 1 GBR7") * 2:
             self.assertEqual(ann.tap(line, at=moment("15:03:00"), seen=seen)[0], 200, line)
+
+    def test_strike_of_a_race_timed_again(self) -> None:
+        """A strike that waited on a phone while the race got another start isn't asked about: nobody else has struck her."""
+        ann, bea = self.device("finish"), self.device("scorer", "Bea")
+        ann.tap("START 1 14:00")
+        ann.tap("FINISH 1 GBR7", at=moment("15:01:00"))
+        seen = ann.state()["entries"]
+        since = {"kind": "start-since", "values": {"race": 1, "start": "14:00:00", "written": "14:01:00"}}
+        self.assertEqual(bea.tap("START 1 14:01", was="14:00:00", agreed=[since])[1]["outcome"], "taken")
+        self.assertEqual(self.journal()[-2:], ["SCORER STRIKE 1 GBR7", "SCORER TIME 1 GBR7 3240"])
+        self.assertEqual(ann.tap("STRIKE 1 GBR7", at=moment("15:01:10"), seen=seen)[1].get("outcome"), "taken")
+
+    def test_strike_of_a_row_put_right(self) -> None:
+        """A strike that waited on a phone, while the scorer put the boat's time right in the sheet, is asked about, and takes
+        nothing away: 5,400 s x 0.900."""
+        ann, bea = self.device("finish"), self.device("scorer", "Bea")
+        ann.tap("START 1 14:00")
+        ann.tap("FINISH 1 GBR7", at=moment("15:01:00"))
+        seen = ann.state()["entries"]
+        self.write(self.text("cup", "times", "race-1.csv").replace("15:01:00", "15:30:00"), "cup", "times", "race-1.csv")
+        self.assertEqual(bea.tap("TIMES 1")[1]["outcome"], "taken")
+        before = self.rows(), self.journal()
+        self.assertEqual(before[1][-2:], ["SCORER STRIKE 1 GBR7", "SCORER TIME 1 GBR7 4860"])
+        status, said = ann.tap("STRIKE 1 GBR7", at=moment("15:01:10"), seen=seen)
+        self.assertEqual((status, said.get("question", {}).get("values")),
+                         (409, {"line": "STRIKE 1 GBR7", "other": "TIME 1 GBR7 4860"}))
+        self.assertEqual((self.rows(), self.journal()), before)
+
+    def test_waited_without_a_start(self) -> None:
+        """In a race without a start, too, a strike or a code is asked about that waited on a phone while another device struck
+        the boat and gave her another finish. One of a device that saw that one isn't."""
+        ann, bob = self.device("finish"), self.device("finish", "Bob")
+        ann.tap("FINISH 1 GBR7", at=moment("15:01:00"))
+        seen = ann.state()["entries"]
+        bob.tap("STRIKE 1 GBR7", at=moment("15:02:00"))
+        bob.tap("FINISH 1 GBR7", at=moment("15:02:10"))
+        for line in ("STRIKE 1 GBR7", "MARK 1 GBR7 RET"):
+            status, said = ann.tap(line, at=moment("15:01:10"), seen=seen)
+            self.assertEqual((status, said.get("question", {}).get("values")), (409, {"line": line, "other": "FINISH 1 GBR7"}))
+        self.assertEqual(self.rows(), ["GBR7,,15:02:10,"])
+        self.assertEqual(ann.tap("STRIKE 1 GBR7", at=moment("15:03:00"), seen=seen)[0], 200)
 
     def test_noted(self) -> None:
         """The same before there is a start, when no line is sent; and a finish that somebody has put into the sheet by
@@ -95,7 +137,8 @@ class Undone(Prepared):
         self.finish(ann, "15:00:00", id := new_id())
         ann.tap("STRIKE 1 GBR7", struck := new_id())
         self.assertEqual(self.undo(ann, struck), (200, "taken"))
-        bob.tap("START 1 14:05")
+        since = {"kind": "start-since", "values": {"race": 1, "start": "14:00:00", "written": "14:05:00"}}
+        bob.tap("START 1 14:05", agreed=[since])
         bob.tap("FINISH 1 NED12", at=moment("15:01:00"))
         bob.tap("MARK 1 FRA9 DNF")
         self.assertEqual((self.journal()[2:5], self.undo(ann, id)), (

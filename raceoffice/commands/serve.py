@@ -1,6 +1,7 @@
 """The whole office in browsers: finish, jury and scorer open a link, and the board is open to all.
 
-    raceoffice serve [FOLDER ...] [--http PORT] [--name HOST] [--certificate FILE [--key FILE]] [--new ROLE]
+    raceoffice serve [FOLDER ...] [--http PORT] [--address ADDRESS] [--name HOST]
+                     [--certificate FILE [--key FILE]] [--new ROLE]
 
 Without a folder the scorer's page makes a series in this one, from an entry list and what the sailing
 instructions say. --browser opens that page here. If this folder has series whose results aren't final, it
@@ -28,22 +29,29 @@ from __future__ import annotations
 
 import argparse
 import os
+import time
 
-from raceoffice.commands.board import port
+from raceoffice.commands.board import address, port
 from raceoffice.errors import Trouble
 from raceoffice.exit_status import status_of
 from raceoffice.files import PRIVATE
 from raceoffice.series import settings
+from raceoffice.series.folder import Folder
 from raceoffice.terminal import question, sentence
+from raceoffice.web.gate import DEVICES_FILE, Gate
 from raceoffice.web.serving import Asked, serve
 from raceoffice.wording import joined
 
 PORT = 8080
+# Seconds for which the links of a series that is final by now may be those of another.
+THESE_DAYS = 3 * 86400
 
 
 def arguments(parser: argparse.ArgumentParser) -> None:
     parser.add_argument("folder", nargs="*", help="the folder of a series; without one, the scorer's page makes a series")
     parser.add_argument("--http", type=port, default=PORT, metavar="PORT", help=f"the port ({PORT})")
+    parser.add_argument("--address", type=address,
+                        help="the address of this computer where devices are answered (that of series.ini, else all)")
     parser.add_argument("--name", default="", metavar="HOST",
                         help="the name by which devices reach this computer")
     parser.add_argument("--certificate", default="", metavar="FILE", help="a certificate: then it is HTTPS")
@@ -55,30 +63,63 @@ def arguments(parser: argparse.ArgumentParser) -> None:
 
 
 def series_here() -> list[str]:
-    """The series of this folder whose results aren't final; the one that knows the devices comes first. One of which
+    """The series of this folder whose results aren't final; the one that knew the devices last comes first. One of which
     the settings can't be read isn't left out without a word: a Trouble."""
     found, faults = [], []
-    for name in sorted(os.listdir()):
-        if os.path.isfile(os.path.join(name, settings.NAME)):
-            try:
-                found += [name] if settings.read(name).state == "provisional" else []
-            except Trouble as trouble:
-                faults.append(f"{name}: {sentence(trouble)}")
+    for name in all_here():
+        try:
+            found += [name] if settings.read(name).state == "provisional" else []
+        except Trouble as trouble:
+            faults.append(f"{name}: {sentence(trouble)}")
     if faults:
         raise Trouble("\n".join([*faults, "Put that right, or name the folders that are to be opened"]))
-    return sorted(found, key=lambda name: not os.path.exists(os.path.join(name, PRIVATE, "web.json")))
+    return sorted(found, key=devices_written, reverse=True)
+
+
+def all_here() -> list[str]:
+    """The series of this folder."""
+    return [name for name in sorted(os.listdir()) if os.path.isfile(os.path.join(name, settings.NAME))]
+
+
+def devices_of(name: str) -> str:
+    """The file of a series that has who may write."""
+    return os.path.join(name, PRIVATE, DEVICES_FILE)
+
+
+def devices_written(name: str) -> float:
+    """When the devices of a series were written last; 0 if it has none."""
+    try:
+        return os.stat(devices_of(name)).st_mtime
+    except OSError:
+        return 0.0
+
+
+def take_over_devices(name: str) -> None:
+    """Gives a series that has no links of its own those of the series of this folder that had links last, of these days, if
+    that is wanted: as long as that one went on, its links were for both."""
+    last = max(all_here(), key=devices_written)
+    if devices_written(name) or devices_written(last) < time.time() - THESE_DAYS:
+        return
+    links = Gate(devices_of(last))
+    who = joined(sorted(f"{device.name} ({device.role.lower()})" for device in links.devices.values())) or "no device"
+    if question(f"{name} has no links yet. Use those of {last}, which is final? They let in {who}.", yes=True):
+        Folder(name).make_private()
+        links.move(devices_of(name))
 
 
 def folders_of(asked: argparse.Namespace) -> list[str]:
     """The folders that are named or, if none is, those of this one that somebody wants opened."""
     if asked.folder or not (found := series_here()):
         return list(asked.folder)
-    return found if question(f"Open {joined(found)}? The results aren't final yet.", yes=True) else []
+    if not question(f"Open {joined(found)}? The results aren't final yet.", yes=True):
+        return []
+    take_over_devices(found[0])
+    return found
 
 
 def run(asked: argparse.Namespace) -> int:
     def served() -> int:
         folders = tuple(folders_of(asked))
         return serve(Asked(folders, asked.http, asked.name, asked.certificate, asked.key, tuple(asked.new),
-                           asked.browser))
+                           asked.browser, asked.address or ""))
     return status_of(served, next(iter(asked.folder), ""))

@@ -125,7 +125,7 @@ def rated(data: bytes, path: str, race: int, system: str) -> Rated:
     if not begins:
         raise Trouble(remark(f"ratings-missing-{system}", name=name_of(path), row=table.first))
     at = begins[max(begins)]
-    sails = list(entry_list.boats_of(table))
+    sails = list(entry_list.boats_of(data))
     rows = [[sail, table.number(row, at)] for sail, (_, row) in zip(sails, table.rows)]
     return Rated(as_csv([["Sail", "Rating"], *rows]), tuple(number for number, _ in table.rows),
                  frozenset(plain(sail) for sail, rating in rows if rating.strip()))

@@ -105,6 +105,12 @@ class SheetOfRace:
         found = [with_seconds("start", self.cell(row, "start")) for row in self.rows]
         return list(dict.fromkeys(filter(None, found)))
 
+    @property
+    def has_finishes(self) -> bool:
+        """Whether a boat has a finish."""
+        held = [self.cell(row, "finish") for row in self.rows]
+        return any(text and not text.isalpha() for text in held)
+
     # What the finish writes
 
     def start(self, text: str, sails: Sequence[str]) -> None:

@@ -13,9 +13,10 @@ from collections.abc import Sequence
 from dataclasses import dataclass
 
 from raceoffice.errors import NotThere, Trouble
-from raceoffice.files import edited_text
+from raceoffice.files import LARGEST_EDITED, read_whole
 from raceoffice.remarks import Remark, remark
 from raceoffice.series.entry_list import fault_of, plain
+from raceoffice.series.read_list import decoded
 from raceoffice.series.settings import rows_of
 from raceoffice.wording import joined
 
@@ -165,9 +166,10 @@ def rulings_of(text: str) -> tuple[list[Ruling], list[Remark]]:
 
 
 def read(folder: str) -> str:
-    """The text of a series' decisions; empty if there are none. A Trouble if it has more lines than a page takes."""
+    """The text of a series' decisions, in the letters of an old editor, too; empty if there are none. A Trouble if it has
+    more lines than a page takes."""
     try:
-        text = edited_text(os.path.join(folder, NAME))
+        text = decoded(read_whole(os.path.join(folder, NAME), LARGEST_EDITED))
     except NotThere:
         return ""
     if (lines := len(rows_of(text))) > MOST:

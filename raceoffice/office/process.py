@@ -20,7 +20,7 @@ from raceoffice.series.run_program import Program, serve_words
 from raceoffice.series.windows import OFFICE, Presence, open_windows
 from raceoffice.session.dialogue import Question
 from raceoffice.session.question_words import question
-from raceoffice.terminal import say
+from raceoffice.terminal import say_if_heard
 
 # The number of clients after which the program ends. Closing uses up the rest, so that it ends by
 # itself, with its table.
@@ -91,7 +91,8 @@ class OfficeProcess:
             self.link = self.first_link()
         finally:
             if note := cut_note(self.said()):
-                say(note)
+                # A terminal whose output is stopped holds no opening up.
+                say_if_heard(note)
 
     def first_link(self) -> Link:
         """The link to the program once it has made its socket."""

@@ -61,8 +61,7 @@ class OfficeWindow(Keeping):
     def start(self) -> None:
         """Opens the office. A signal that comes meanwhile ends both."""
         for number in system.STOPS - {signal.SIGINT}:
-            if signal.getsignal(number) != signal.SIG_IGN:
-                signal.signal(number, lambda *_: sys.exit(1))
+            signal.signal(number, lambda *_: sys.exit(1))
         super().start()
 
     def begin(self) -> None:

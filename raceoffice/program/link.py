@@ -9,7 +9,7 @@ from dataclasses import dataclass
 
 from raceoffice import system
 from raceoffice.characters import utf8
-from raceoffice.errors import Gone, NoSeat, Trouble, as_trouble
+from raceoffice.errors import Gone, Lost, NoSeat, Trouble, as_trouble
 from raceoffice.remarks import remark, system_remark
 
 # How long an answer may take, in seconds, and how many bytes of one are read at most. A sheet of
@@ -25,15 +25,15 @@ class Sheet:
     table: tuple[str, ...]
 
 
-def unreachable(path: str, cause: OSError) -> Trouble:
+def unreachable(path: str, cause: OSError) -> Lost:
     """Why nobody could be reached at the socket."""
     if isinstance(cause, FileNotFoundError):
         return Gone(remark("office-none"))
     if isinstance(cause, ConnectionRefusedError):
         return Gone(remark("office-left"))
     if isinstance(cause, PermissionError):
-        return Trouble(remark("office-denied", path=path))
-    return Trouble(remark("office-unreached", path=path, why=system_remark(cause) if cause.strerror else str(cause)))
+        return Lost(remark("office-denied", path=path))
+    return Lost(remark("office-unreached", path=path, why=system_remark(cause) if cause.strerror else str(cause)))
 
 
 class Link:
@@ -68,20 +68,20 @@ class Link:
             try:
                 data = self.socket.recv(65536)
             except TimeoutError:
-                raise Trouble(remark("office-silent", seconds=f"{self.patience:g}")) from None
+                raise Lost(remark("office-silent", seconds=f"{self.patience:g}")) from None
             except OSError:
                 data = b""
             if not data:
-                raise Trouble(remark("office-lost"))
+                raise Lost(remark("office-lost"))
             *lines, self.rest = (self.rest + data).split(b"\n")
             self.lines.extend(text.decode("ascii", "replace") for text in lines)
             if len(self.rest) > LARGEST:
-                raise Trouble(remark("stranger-answer"))
+                raise Lost(remark("stranger-answer"))
         text = self.lines.popleft()
         if text == "BUSY":
             raise NoSeat(remark("office-full"))
         if text == "CLOSED":
-            raise Trouble(remark("office-closed-to-all"))
+            raise Lost(remark("office-closed-to-all"))
         return text
 
     def ask(self, line: str) -> str:
@@ -94,12 +94,12 @@ class Link:
         """The first line of the answer to a line. Until all of it is read nothing else is asked: what comes
         late would be taken for the answer to that."""
         if self.is_owed:
-            raise Trouble(remark("office-owes"))
+            raise Lost(remark("office-owes"))
         self.is_owed = True
         try:
             self.socket.sendall(utf8(line) + b"\n")
         except TimeoutError:
-            raise Trouble(remark("office-deaf", seconds=f"{self.patience:g}")) from None
+            raise Lost(remark("office-deaf", seconds=f"{self.patience:g}")) from None
         except OSError:
             # A client who is turned away can't write any more, and has yet to read why.
             pass
@@ -109,17 +109,17 @@ class Link:
         """The journal's lines and the table's."""
         words = (first := self.begun("SHOW")).split()
         if len(words) != 2 or words[0] != "JOURNAL" or not re.fullmatch("[0-9]{1,9}", words[1]):
-            raise Trouble(remark("office-no-journal", said=repr(first[:60])))
+            raise Lost(remark("office-no-journal", said=repr(first[:60])))
         lines: list[str] = []
         size = 0
         while not lines or lines[-1] != "END":
             lines.append(self.line())
             size += len(lines[-1]) + 1
             if size > LARGEST:
-                raise Trouble(remark("stranger-sheet"))
+                raise Lost(remark("stranger-sheet"))
         journal, table = lines[:int(words[1])], lines[int(words[1]):-1]
         if not table or not table[0].startswith("TABLE "):
-            raise Trouble(remark("stranger-said", said=repr(first[:60])))
+            raise Lost(remark("stranger-said", said=repr(first[:60])))
         self.is_owed = False
         return Sheet(tuple(journal), tuple(table))
 

@@ -6,6 +6,7 @@ from collections.abc import Mapping, Sequence
 from dataclasses import dataclass
 
 from raceoffice.characters import utf8
+from raceoffice.corrected.unsent import unsent
 from raceoffice.decisions.points import Verdict
 from raceoffice.errors import Trouble
 from raceoffice.files import edited_text, replace_whole
@@ -49,13 +50,13 @@ def sheet_now(folder: Folder) -> Sheet:
 # What is open
 
 def open_points(folder: Folder, sheet: Sheet, decisions: DecisionsNow | None = None) -> list[Open]:
-    """Boats without a name, races that aren't scored, finishers without a sail, decisions that aren't in the scores as
-    they have to be."""
+    """Boats without a name, races that aren't scored or that have other times in their sheets, finishers without a sail,
+    decisions that aren't in the scores as they have to be."""
     series, names = Series.read(list(sheet.journal)), entry_list.read_if_there(folder.entries)
     unnamed = without_name(series.boats, names)
     left = [race for _, race in sorted(series.races.items()) if race.is_recorded and not race.counts]
     return [*([of_unnamed(folder, unnamed)] if unnamed else []), *(of_race(race, names) for race in left),
-            *of_places(folder), *of_decisions(folder, sheet, decisions or DecisionsNow(folder))]
+            *of_sheets(folder, series, sheet.journal), *of_places(folder), *of_decisions(folder, sheet, decisions or DecisionsNow(folder))]
 
 
 def without_name(boats: Sequence[str], names: Names) -> list[str]:
@@ -76,6 +77,25 @@ def of_race(race: Race, names: Names) -> Open:
     held = tuple(" ".join([sail, *race.held(sail)]) for sail in race.holders())
     return Open("race-unscored", {"race": race.number, "finished": sum(map(len, race.order)), "held": held},
                 f"Race {race.number} isn't scored. Recorded of it: {recorded_of(race, names)}.")
+
+
+def of_sheets(folder: Folder, series: Series, journal: Sequence[str]) -> list[Open]:
+    """The races that count, and whose sheets of times have something else than the journal: somebody may have said No to
+    that."""
+    counting = [number for number, race in sorted(series.races.items()) if race.counts]
+    found = [(race, unsent(folder, race, journal)) for race in counting]
+    return [of_sheet_fault(race, one.fault) if one.fault else of_sheet(race, one.sails) for race, one in found
+            if one.fault or one.sails]
+
+
+def of_sheet(race: int, sails: tuple[str, ...]) -> Open:
+    return Open("sheet-unsent", {"race": race, "sails": sails},
+                f"What the sheet of times of race {race} has of {joined(sails)} isn't in the journal.")
+
+
+def of_sheet_fault(race: int, fault: str) -> Open:
+    return Open("sheet-unread", {"race": race, "fault": fault},
+                f"Whether the journal has the times of the sheet of race {race} isn't known: {fault}")
 
 
 def recorded_of(race: Race, names: Names) -> str:
@@ -127,10 +147,11 @@ def asked_of(state: str, points: Sequence[Open], mark: str = "") -> Question:
 
     decisions = [" ".join(str(point.values[name]) for name in ("race", "sail", "kind", "points", "held"))
                  for point in points if point.kind == "decision-stale"]
-    devices = all_of("taps-unsent", "devices")
+    # An older page hasn't these.
+    more = {"devices": all_of("taps-unsent", "devices"), "sheets": (*all_of("sheet-unsent", "race"), *all_of("sheet-unread", "race"))}
     return question("announce", str, state=state, table=mark, races=all_of("race-unscored", "race"),
                     sails=all_of("boats-unnamed", "sails"), marks=all_of("finishers-unknown", "marks"),
-                    faults=(*all_of("places-unread", "fault"), *all_of("decisions-unread", "fault")), decisions=decisions, **({"devices": devices} if devices else {}))
+                    faults=(*all_of("places-unread", "fault"), *all_of("decisions-unread", "fault")), decisions=decisions, **{name: held for name, held in more.items() if held})
 
 
 def need_reason(state: str, reason: str) -> str:

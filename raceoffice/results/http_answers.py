@@ -20,6 +20,8 @@ from raceoffice.results.html import assets
 
 # How many bytes a request may have.
 LARGEST = 8192
+# The versions of HTTP in which somebody may ask.
+VERSIONS = ("HTTP/1.0", "HTTP/1.1")
 WORDS = {301: "The page is at the address with a slash at its end.",
          400: "This isn't a request that is answered here.",
          404: "There is no such page here.", 405: "This board can only be read.",
@@ -77,7 +79,7 @@ class Request:
     def read(cls, head: bytes) -> Request:
         first, *lines = re.split("\r?\n", head.decode("latin-1"))
         method, target, version = first.split(" ")
-        if not version.startswith("HTTP/1.") or not target.startswith("/"):
+        if version not in VERSIONS or not target.startswith("/"):
             raise ValueError(first)
         fields = {name.strip().lower(): value.strip()
                   for name, _, value in (line.partition(":") for line in lines)}

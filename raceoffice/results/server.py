@@ -175,7 +175,8 @@ def door_at(address: str, port: int) -> socket.socket:
                       "take one from 1024 on, as --http 8080") from None
     except OSError as cause:
         if cause.errno == errno.EADDRNOTAVAIL:
-            raise Trouble(f"this computer doesn't have the address {address}") from None
+            raise Trouble(f"this computer doesn't have the address {address}, which --address or series.ini "
+                          "names") from None
         raise Trouble(f"port {port} can't be used: {os.strerror(cause.errno or 0)}. Another program may "
                       "have it: take another, as --http 8081") from None
 

@@ -1,9 +1,10 @@
 """The entry list: the boats with their names, and what is wrong with a list, in words."""
 from __future__ import annotations
 
+import functools
 import re
 import string
-from collections.abc import Sequence
+from collections.abc import Mapping, Sequence
 from dataclasses import dataclass
 
 from raceoffice.errors import Trouble
@@ -14,6 +15,10 @@ from raceoffice.wording import on_one_line
 
 SAIL = re.compile(r"[A-Z0-9-]{1,12}")
 ROOM = 500
+# The most faults that are named: a list with as many rows has no room in a class.
+FAULTS = 1000
+# The lists that are remembered, for all classes of a computer.
+LISTS = 8
 # Other alphabets have small letters of their own, which the program doesn't raise.
 RAISED = str.maketrans(string.ascii_lowercase, string.ascii_uppercase)
 
@@ -44,13 +49,15 @@ def plain_words(line: str) -> list[str]:
 def read(path: str) -> dict[str, Boat]:
     """The boats of an entry list, by the sail as the program writes it; none if it has faults."""
     data = bytes_of(path)
-    return {} if problems(data, path) else boats_of(table_of(data))
+    return {} if problems(data, path) else dict(boats_of(data))
 
 
-def boats_of(table: Table) -> dict[str, Boat]:
+@functools.lru_cache(maxsize=LISTS)
+def boats_of(data: bytes) -> Mapping[str, Boat]:
     """The boats of a list without faults. What isn't printable is taken out of their names, since they
     may come from anybody, and go to terminals and pages. Sails are shown in capitals."""
-    places, boats = columns(table.heads, ENTRIES), {}
+    table = table_of(data)
+    places, boats = columns(table.heads, ENTRIES), dict[str, Boat]()
     for _, row in table.rows:
         texts = {key: on_one_line(table.cell(row, at)) for key, at in places.items()}
         boat = Boat(**texts | {"sail": texts["sail"].translate(RAISED)})
@@ -72,7 +79,7 @@ def given(path: str) -> bytes:
     data = bytes_of(path)
     if wrong := problems(data, path):
         raise Trouble(*wrong)
-    return as_csv([["Sail"], *([sail] for sail in boats_of(table_of(data)))])
+    return as_csv([["Sail"], *([sail] for sail in boats_of(data))])
 
 
 def columns_left(data: bytes) -> list[str]:
@@ -135,7 +142,12 @@ def fault_of(sail: str) -> Remark | None:
 
 def problems(data: bytes, path: str) -> list[Remark]:
     """All that keeps a list from being used, in words: as much as shows at once; empty if nothing does."""
-    name = path if isinstance(path, Remark) else name_of(path)
+    return [*faults_of(data, path if isinstance(path, Remark) else name_of(path))]
+
+
+@functools.lru_cache(maxsize=LISTS, typed=True)
+def faults_of(data: bytes, name: str) -> list[Remark]:
+    """What is wrong with a list of this name, which is looked through once: a tap doesn't wait for that again."""
     if wrong := wrong_form(data, name):
         return [wrong]
     table = table_of(data)
@@ -145,6 +157,8 @@ def problems(data: bytes, path: str) -> list[Remark]:
         return faults
     found: dict[str, int] = {}
     for number, row in table.rows:
+        if len(faults) >= FAULTS:
+            return faults
         if fault := fault_of_row(row, at, found):
             helm = on_one_line(table.cell(row, who))
             faults.append(remark("list-row-of", name=name, row=number, helm=helm, fault=fault) if helm and len(row) > at

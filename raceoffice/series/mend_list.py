@@ -8,7 +8,7 @@ from raceoffice.remarks import Remark, remark
 from raceoffice.series.entry_list import Boat, boats_of, column_like, left_in_words, problems
 from raceoffice.series.headings import ENTRIES, column, rating_columns
 from raceoffice.series.read_list import (FIRST_ROWS, MARKS, SEPARATORS, Rows, Table, as_csv, decoded, heading_at,
-                                         rank_of, rows_of, table_of, wrong_form)
+                                         rank_of, rows_of, wrong_form)
 from raceoffice.wording import on_one_line
 
 # What the list is called in what is wrong with it, and what parts its columns.
@@ -29,7 +29,7 @@ class Mended:
     @property
     def boats(self) -> list[Boat]:
         """Its boats; none if anything is wrong."""
-        return [] if self.wrong or not self.data else list(boats_of(table_of(self.data)).values())
+        return [] if self.wrong or not self.data else list(boats_of(self.data).values())
 
 
 def mended(data: bytes, sails: int | None = None) -> Mended:

@@ -140,12 +140,6 @@ def keep_abandoned(start: str, data: bytes) -> None:
     replace_whole(next(path for path in names if path not in kept), data)
 
 
-def is_abandoned_since(folder: Folder, race: int, at: int) -> bool:
-    """Whether a sheet of a race was kept as that of one that is abandoned in a later second than that of a moment."""
-    start, second = folder.file(sheet_name(race)).removesuffix(".csv"), time.strftime(STAMP, time.gmtime(at / 1000))
-    return any(path[len(start):].removeprefix("-abandoned-") > f"{second}Z~" for path in glob.glob(f"{glob.escape(start)}-abandoned-*Z*.csv"))
-
-
 def has(path: str, data: bytes) -> bool:
     """Whether a file has just this."""
     with contextlib.suppress(Trouble):

@@ -26,14 +26,34 @@ from raceoffice.wording import count
 
 
 def lines_about(journal: list[str], sail: str) -> dict[int, str]:
-    """The lines about a boat by their numbers; a Trouble if another boat's place hangs on hers."""
-    named = {at: line for at, line in enumerate(journal, 1) if sail in entry_list.sails_of(line)}
-    for at, line in named.items():
-        if entry_list.sails_of(line)[0] != sail:
-            raise Trouble(remark("removal-beside", sail=sail, number=at, line=" ".join(line.split()[3:])))
-    if not named:
+    """The lines about a boat by their numbers, and those that placed another boat by her until that one was struck. A
+    Trouble if another boat's place still hangs on hers."""
+    about: set[int] = set()
+    for at, line in enumerate(journal, 1):
+        named = entry_list.sails_of(line)
+        if named[:1] == [sail]:
+            about.add(at)
+        elif sail in named:
+            about |= {at, struck_again(journal, at, sail)}
+    if not about:
         raise Trouble(remark("removal-absent", sail=sail))
-    return named
+    return {at: journal[at - 1] for at in sorted(about)}
+
+
+def struck_again(journal: list[str], placed: int, sail: str) -> int:
+    """The number of the line that struck a boat who was placed by another, by that of the line that placed her. A Trouble
+    if she has that place still."""
+    words = words_of(journal[placed - 1])
+    _, race, boat, _ = words
+    for at in range(placed + 1, len(journal) + 1):
+        if words_of(journal[at - 1]) == ["STRIKE", race, boat]:
+            return at
+    raise Trouble(remark("removal-beside", sail=sail, number=placed, line=" ".join(words), boat=boat, race=int(race)))
+
+
+def words_of(entry: str) -> list[str]:
+    """The words of an entry's command."""
+    return entry_list.plain_words(entry)[3:]
 
 
 @dataclass(frozen=True)

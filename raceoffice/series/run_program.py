@@ -123,9 +123,8 @@ def opened_rules(folder: Folder) -> dict[str, object]:
 
 
 def rules_in_force(folder: Folder) -> dict[str, object]:
-    """The rules of the open office; none if no office is open, when those of series.ini are in force."""
-    is_open = os.path.lexists(folder.socket) and not folder.is_closing()
-    return opened_rules(folder) if is_open else {}
+    """The rules of a program that serves the series; none if none does, when those of series.ini are in force."""
+    return opened_rules(folder) if folder.is_held() else {}
 
 
 def options_in_force(folder: Folder) -> list[str]:

@@ -4,6 +4,7 @@ from __future__ import annotations
 from raceoffice.errors import NotSent
 from raceoffice.program.journal import Plan, Race, plan_of_abandoning
 from raceoffice.remarks import remark
+from raceoffice.series.abandoned import note_abandoned
 from raceoffice.series.race_sheets import clear_sheet, sheet_without_race
 from raceoffice.session.answers import changes_said, plan_said
 from raceoffice.session.parse import MAY
@@ -15,10 +16,11 @@ from raceoffice.wording import count
 def abandon(seat: Seat, race: Race) -> bool:
     """Takes a race away, after a question; whether all its lines were taken."""
     plan, kept, sheet = what_goes(seat, race)
-    needed = {line.split()[0] for line in plan.lines} | ({"STRIKE"} if kept or sheet else set())
-    if barred := sorted(needed - MAY[seat.role]):
+    # Whoever abandons a race may strike, also if there is nobody.
+    if barred := sorted({"STRIKE", *(line.split()[0] for line in plan.lines)} - MAY[seat.role]):
         raise NotSent(remark("abandon-role", race=race.number, lines=barred, role=seat.role.lower()))
-    if not needed:
+    if not (plan.lines or kept or sheet):
+        note_abandoned(seat.folder, race.number)
         seat.say_of("nothing-there", race=race.number)
         return True
     seat.tell_all(plan_said(seat.facts, race, plan, kept, seat.prefix))
@@ -31,6 +33,7 @@ def abandon(seat: Seat, race: Race) -> bool:
     if what_goes(seat, now) != (plan, kept, sheet):
         # What others have recorded meanwhile was never shown.
         return abandon(seat, now)
+    note_abandoned(seat.folder, race.number)
     if sheet:
         # What it had would be sent again by the next tap.
         clear_sheet(seat.folder, race.number, sheet)

@@ -1,11 +1,14 @@
 """What is asked before a line is sent, since it can't be taken back, or is hardly meant."""
 from __future__ import annotations
 
+import contextlib
 from collections.abc import Sequence
 
 from raceoffice.corrected.unsent import unsent
+from raceoffice.errors import Trouble
 from raceoffice.program.journal import Race
-from raceoffice.series import entry_list
+from raceoffice.series import entry_list, settings
+from raceoffice.series.folder import Folder
 from raceoffice.series.unknown_finishers import Unread
 from raceoffice.session.dialogue import Question
 from raceoffice.session.facts import Facts
@@ -33,8 +36,17 @@ def questions(facts: Facts, role: str, line: str, unread: Sequence[Unread]) -> l
     if command == "REDRESS" and len(rest) == 3 and rest[1] in facts.boats:
         asked = before_redress(facts, race or Race(race_number(rest[0])), rest[1])
     if not asked and command in SAILS and race and race.counts:
-        asked = [question("correction", facts.called, race=race.number)]
+        asked = [question("correction", facts.called, race=race.number, **declared(facts.folder))]
     return asked
+
+
+def declared(folder: Folder) -> dict[str, str]:
+    """As what the results are declared, if they aren't provisional any more."""
+    with contextlib.suppress(Trouble):
+        # The notice may have been written since this session came.
+        state = settings.read(folder.path).state
+        return {} if state == "provisional" else {"declared": state}
+    return {}
 
 
 def before_entry(facts: Facts, sail: str) -> Question:

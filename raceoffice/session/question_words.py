@@ -117,7 +117,8 @@ def of_unscore(words: Words) -> str:
 
 
 def of_correction(words: Words) -> str:
-    return f"RACE {words.text('race')} COUNTS ALREADY. Is this a correction?"
+    declared = "THE RESULTS ARE FINAL. " if "declared" in words.values else ""
+    return f"{declared}RACE {words.text('race')} COUNTS ALREADY. Is this a correction?"
 
 
 def of_clear(words: Words) -> str:
@@ -190,6 +191,22 @@ def of_old_start(words: Words) -> str:
     return f"Race {words.text('race')} has been abandoned since. Is {words.text('written')} its start all the same?"
 
 
+def of_abandoned(words: Words) -> str:
+    """A tap that was made before its race was abandoned, and that comes later."""
+    return f"Race {words.text('race')} has been abandoned since. Does this belong to the race that is sailed again?"
+
+
+def of_other_line(words: Words) -> str:
+    """Another line about the same boat that was sent after a tap was made, and before it comes."""
+    return f"Somebody else has sent {words.text('other')} since. Send {words.text('line')} all the same?"
+
+
+def of_place_ahead(words: Words) -> str:
+    """A place that was kept since, just ahead of the boat that somebody has pointed at."""
+    mark = words.text("mark")
+    return f"{mark} has been kept just ahead of {words.boat('ahead')} since. Did {words.boat()} finish after {mark}?"
+
+
 def of_others(words: Words) -> str:
     """Others were recorded after a finisher was seen, and before she was."""
     others, sail = words.boats("others"), words.boat()
@@ -228,7 +245,7 @@ def of_taking_over(words: Words) -> str:
 def of_announcing(words: Words) -> str:
     """Before results are provisional, final or amended; what is open is said before."""
     state, races = words.text("state"), words.all("races")
-    if words.all("marks") or words.all("faults") or words.all("decisions") or "devices" in words.values:
+    if words.all("marks") or words.all("faults") or words.all("decisions") or {"devices", "sheets"} & words.values.keys():
         return f"Are the results {state} all the same?"
     without = f" without {'that race' if len(races) == 1 else 'those races'}" if races else ""
     return f"Are the results {state}{without}?"
@@ -246,7 +263,8 @@ WORDS: dict[str, Callable[[Words], str]] = {
     "drop-place": of_dropping, "keep-place-again": of_keeping,
     # Only pages ask these.
     "sent-already": of_same_line, "others-recorded": of_others, "tapped-too": of_tapped_too,
-    "start-since": of_start, "start-abandoned": of_old_start, "score-unsent": of_unsent,
+    "start-since": of_start, "start-abandoned": of_old_start, "abandoned-since": of_abandoned,
+    "other-since": of_other_line, "place-ahead": of_place_ahead, "score-unsent": of_unsent,
     "another-series": of_another_series,
     # Before an office is opened.
     "use-copy": of_copy, "not-continued": of_difference, "new-rules": of_rules,

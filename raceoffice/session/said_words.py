@@ -232,6 +232,10 @@ def of_digits(words: SaidWords) -> str:
     return f"   {words.text('digits')} is {words.boat()}{more}"
 
 
+def of_lines_sent(words: SaidWords) -> str:
+    return f"   Sent already: {', '.join(words.all('lines'))}"
+
+
 def of_nothing_sent(_: SaidWords) -> str:
     return "   Not sent."
 
@@ -260,7 +264,7 @@ WORDS: dict[str, Callable[[SaidWords], str]] = {
     "nothing-there": of_nothing_there, "plan": of_plan, "plan-places": of_plan_places, "plan-stays": of_plan_stays,
     "plan-resailed": of_resailing, "plan-jury": of_plan_jury, "taken-away": of_taken_away, "stopped": of_stop,
     "race-state": of_race, "race-unread": of_race_unread, "race-missing": of_race_missing,
-    "digits": of_digits, "not-sent": of_nothing_sent, "log-fault": of_log, "sheet-waits": of_sheet, "row-left-out": of_row,
+    "digits": of_digits, "lines-sent": of_lines_sent, "not-sent": of_nothing_sent, "log-fault": of_log, "sheet-waits": of_sheet, "row-left-out": of_row,
 }
 
 

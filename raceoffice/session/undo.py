@@ -1,6 +1,7 @@
 """How what was done last is taken back: by the one line that reverses it, or at the place that was kept."""
 from __future__ import annotations
 
+import contextlib
 from collections.abc import Collection
 
 from raceoffice.errors import NotSent
@@ -8,11 +9,12 @@ from raceoffice.program.journal import Race, Series
 from raceoffice.program.messages import ROLES
 from raceoffice.remarks import Remark, remark
 from raceoffice.series.kept_places import History
+from raceoffice.series.line_order import LineOrder
 from raceoffice.series.lost_lines import as_kept
 from raceoffice.series.unknown_finishers import Unread
 from raceoffice.session.dialogue import NOTE
 from raceoffice.session.facts import Facts
-from raceoffice.session.parse import FINISHING
+from raceoffice.session.parse import FINISHING, MAY
 from raceoffice.session.said_words import said
 from raceoffice.session.seat import Done, Seat
 from raceoffice.session.sending import is_meant, transmit
@@ -62,19 +64,62 @@ def send_leaving(seat: Seat, line: str, unread: Unread) -> bool:
 
 
 def send_back(seat: Seat, line: str) -> bool:
-    """Sends the line that takes another back; whether it was taken. A boat that was struck comes back where she was,
-    also among the places that were kept since."""
-    if line.split()[0] not in ("FINISH", "BEFORE"):
+    """Sends the line that takes another back; whether it was taken. A boat that was struck comes back where she was."""
+    command, *rest = line.split()
+    if command not in ("FINISH", "BEFORE"):
         return transmit(seat, line)
-    note = seat.places.note_back(int(line.split()[1]), line, len(seat.facts.sheet.journal))
+    race, sail, length = int(rest[0]), rest[1], len(seat.facts.sheet.journal)
+    if not is_back(seat, race, line):
+        return False
+    number = seat.done.number if seat.done else 0
+    if number > length + 1:
+        # Somebody who didn't wait, as nobody does for long, has sent a line in between.
+        wanted = line_back(seat.places.read(seat.facts.commands[:number - 1]), race, sail)
+        if wanted != line and transmit(seat, f"STRIKE {race} {sail}"):
+            is_back(seat, race, wanted)
+    return True
+
+
+def is_back(seat: Seat, race: int, line: str) -> bool:
+    """Sends the line that puts a boat back where she was, also among the places that were kept since; whether it was
+    taken."""
+    note = seat.places.note_back(race, line, len(seat.facts.sheet.journal))
     is_taken = transmit(seat, line)
     if not is_taken:
         seat.places.take_back(note, "refused")
     return is_taken
 
 
+def line_if_moved(seat: Seat, done: Done, entries: int) -> str:
+    """The line that puts a boat that was struck, or a place that was dropped, where she was, if somebody who was ahead of her
+    when the journal had this many entries is behind her now, or the other way round; empty if nobody is, or of anything
+    else that was done. So it may be after a swap: she was between the two."""
+    if not (done.line.startswith("STRIKE ") or done.unread and done.what == "dropped"):
+        return ""
+    number, name = (done.unread.race, done.unread.mark) if done.unread else (int(done.line.split()[1]), done.line.split()[2])
+    before, now = seat.places.read(seat.facts.commands[:entries]).order(number), seat.history.order(number)
+    if not is_on_another_side(name, before, now):
+        return ""
+    return now.line_back(number, name)
+
+
+def is_on_another_side(name: str, before: LineOrder, now: LineOrder) -> bool:
+    """Whether a boat that is in both orders isn't on the same side of somebody."""
+    def side(order: LineOrder, sail: str) -> int:
+        return (order.at(sail) > order.at(name)) - (order.at(sail) < order.at(name))
+    standing = {sail for group in now.groups for sail in now.boats(group)} - {name}
+    for sail in sorted(standing):
+        # Somebody may not be in one of them.
+        with contextlib.suppress(ValueError):
+            if side(before, sail) != side(now, sail):
+                return True
+    return False
+
+
 def undo_place(seat: Seat, unread: Unread, what: str) -> bool:
     """Drops a place that was kept last, or keeps one again that was dropped last."""
+    if "FINISH" not in MAY[seat.role]:
+        raise NotSent(remark("place-role"))
     if (what == "kept") != (unread.mark in seat.unread.marks(unread.race)):
         raise NotSent(remark("undo-typed", mark=unread.mark, race=unread.race))
     kind = "drop-place" if what == "kept" else "keep-place-again"

@@ -3,6 +3,7 @@ type and the narrow form that the package gives it."""
 from __future__ import annotations
 
 import datetime
+import html
 import json
 import re
 from collections.abc import Mapping
@@ -24,6 +25,8 @@ JOURNAL, ENTRIES, SERIES = 1 << 20, 8192, 100
 # The most characters of a block: thirty times as many as that of 500 boats, 40 races and a full journal has. To read one
 # takes thirty times its size of memory.
 BLOCK = 12 << 20
+# The most characters that its names, settings and decisions have as a page has them. Those of 500 boats have a hundredth.
+WRITTEN = 4 << 20
 SHOWN = re.compile("[A-Za-z0-9-]+(?: [A-Za-z0-9-]+)*")
 PROGRAM = re.compile("(?:[0-9a-f]{64})?")
 MOMENT = re.compile(r"[0-9]{4}-[0-9]{2}-[0-9]{2}T[0-9]{2}:[0-9]{2}:[0-9]{2}\+00:00")
@@ -69,6 +72,7 @@ def found_in(page: str) -> Kept:
     compare_seal(text, whole["seal"])
     if wrong := wrong_form(kept):
         raise ForeignPage(wrong)
+    need_size(kept)
     return kept
 
 
@@ -196,6 +200,15 @@ def carried_of(series: Mapping[str, object], stamp: Mapping[str, object]) -> Car
     parts = {name: tuple(value) if isinstance(value, list) else value for name, value in series.items()}
     parts["boats"] = tuple(map(tuple, parts["boats"]))  # type: ignore
     return Carried(**parts, stamp=Stamp(**stamp))  # type: ignore
+
+
+def need_size(kept: Kept) -> None:
+    """Unsure if it would take too long to write again what a page carries."""
+    texts = [text for carried in kept.series for part in (carried.settings.values(), carried.decisions, *carried.boats)
+             for text in part]
+    if sum(len(html.escape(text)) for text in texts) > WRITTEN:
+        raise Unsure(f"its names, settings and decisions have more than {WRITTEN:,} characters as HTML, which would "
+                     "take too long to write again")
 
 
 # What was changed without making marks and seal again

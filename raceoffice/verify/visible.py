@@ -18,6 +18,11 @@ VOID = {"meta", "link", "input", "br", "img", "hr", "rect", "circle", "path", "l
 RAW, SILENT = ("script", "style"), {"script", "style", "noscript"}
 TAG = re.compile("<([^<>]*)>")
 CLASS = re.compile('class="([^"]*)"')
+# The references that the package writes, beside that of `&` itself.
+AND = "&amp;"
+OWN = [("&#x27;", "'"), ("&quot;", '"'), ("&lt;", "<"), ("&gt;", ">")]
+# The most others that are read: to read one takes microseconds.
+MANY = 100_000
 # A number of a sign that is too long for one.
 LONG = re.compile("&#[xX]?[0-9a-fA-F]{8}")
 HEAD = re.compile("[A-Z][A-Za-z0-9]{0,9}")
@@ -72,6 +77,8 @@ class Seen:
         self.open: list[str] = []
         self.cell: Cell | None = None
         self.pieces: list[str] = []
+        own = sum(page.count(reference) for reference, _ in OWN) + page.count(AND)
+        self.has_many = page.count("&") - own > MANY
         for kind, text in tokens(page):
             if kind == "text":
                 self.text(text)
@@ -108,7 +115,7 @@ class Seen:
 
     def text(self, text: str) -> None:
         if not SILENT.intersection(self.open):
-            self.pieces.append(text if LONG.search(text) else html.unescape(text))
+            self.pieces.append(unescaped(text, self.has_many or LONG.search(text) is not None))
 
     def end_text(self) -> None:
         """Puts the text that was read where it belongs."""
@@ -122,6 +129,15 @@ class Seen:
         else:
             where = [tag for tag in self.open if tag in BLOCKS]
             self.texts.append((where[-1] if where else "body", text))
+
+
+def unescaped(text: str, is_own: bool) -> str:
+    """A text with the signs that its references mean, or that those mean which the package writes: `is_own`. These are
+    read at once, as a name may have millions."""
+    for reference, sign in OWN:
+        text = text.replace(reference, sign)
+    is_own = is_own or text.count("&") == text.count(AND)
+    return text.replace(AND, "&") if is_own else html.unescape(text)
 
 
 def longer(text: str, more: str) -> str:

@@ -5,26 +5,24 @@ sends what is left of them. Until somebody does that, or leaves the rest, the sc
 """
 from __future__ import annotations
 
-import contextlib
-from collections.abc import Iterator, Mapping, Sequence
+from collections.abc import Mapping, Sequence
 from typing import Any
 
 from raceoffice.errors import NotSent
 from raceoffice.program.replay import Line
-from raceoffice.series.line_order import ORDERING, LineOrder, Meant
-from raceoffice.session.dialogue import Question
-from raceoffice.session.question_words import question
+from raceoffice.remarks import remark
 from raceoffice.web import preview
 from raceoffice.web.finish_order import without_place
+from raceoffice.web.plans import asked_of, told_what_was_sent
 from raceoffice.web.requests import Wrong
 from raceoffice.web.room import Room
-from raceoffice.web.rulings import asked_first, tap_of
+from raceoffice.web.rulings import tap_of
 from raceoffice.web.states import Values
-from raceoffice.web.tap_session import Asked
-from raceoffice.web.taps import LINE, Tap, correction_of, part_id
+from raceoffice.web.tap_session import TapSession
+from raceoffice.web.taps import LINE, PLACED, Tap, correction_of, part_id
 
-# The lines that a correction may have, and how many at most.
-KINDS = ("STRIKE", "FINISH", "TIE", "BEFORE", "TIME", "TIMES", "MARK", "PENALTY", "CLEAR")
+# The lines that a correction may have, each with its fewest words, and how many lines at most.
+KINDS = {"STRIKE": 3, "FINISH": 3, "TIE": 4, "BEFORE": 4, "TIME": 4, "TIMES": 2, "MARK": 4, "PENALTY": 4, "CLEAR": 3}
 MOST = 4000
 
 
@@ -42,12 +40,12 @@ def correct(room: Room, values: Mapping[str, Any], name: str) -> Values:
             room.news()
 
 
-def ask_first(room: Room, values: Mapping[str, Any]) -> None:
-    """Asks what is asked of the lines of a correction, of which none is sent."""
+def ask_whole(room: Room, values: Mapping[str, Any], name: str) -> None:
+    """Asks what is asked of the lines of a correction, of which none is sent. `name` is the device's."""
     tap, lines = tap_of(values), lines_in(values)
     with room.lock:
         room.session("SCORER").look()
-        check(room, tap, lines)
+        check(room, tap, lines, name)
 
 
 def leave_rest(room: Room, values: Mapping[str, Any]) -> None:
@@ -65,7 +63,8 @@ def lines_in(values: Mapping[str, Any]) -> list[Line]:
     if not isinstance(found, list) or len(found) > MOST:
         raise Wrong(400, "this is no correction")
     for line in found:
-        if not isinstance(line, str) or not LINE.fullmatch(line) or line.split()[:1] not in [[kind] for kind in KINDS]:
+        words = line.split() if isinstance(line, str) and LINE.fullmatch(line) else []
+        if not words or words[0] not in KINDS or len(words) < KINDS[words[0]]:
             raise Wrong(400, "this is no line of a correction")
     return [Line("SCORER", " ".join(line.split())) for line in found]
 
@@ -75,13 +74,14 @@ def sent_whole(room: Room, tap: Tap, given: Sequence[Line], name: str) -> Values
     is sent."""
     key, register = correction_of(tap.id), room.register
     if key not in register.decisions:
-        check(room, tap, given)
+        check(room, tap, given, name)
         register.decide(key, given)
     is_held, whole, done = bool(register.decisions[key]), register.corrections.get(key, []), list[Values]()
     for at, line in enumerate(whole):
         part = Tap(part_id(tap.id, at), line.text, tap.at, agreed=tap.agreed)
         # Of one that somebody has left nothing more is sent.
-        came = room.do("SCORER", name, part) if is_held else room.done(part)
+        with told_what_was_sent(done):
+            came = room.do("SCORER", name, part) if is_held else room.done(part)
         if came is None:
             break
         done.append(came)
@@ -95,33 +95,26 @@ def sent_whole(room: Room, tap: Tap, given: Sequence[Line], name: str) -> Values
     return {"outcome": "refused" if is_refused else "left" if left else "taken", "done": done, "left": left}
 
 
-def check(room: Room, tap: Tap, lines: Sequence[Line]) -> None:
+def check(room: Room, tap: Tap, lines: Sequence[Line], name: str) -> None:
     """Asks what the office asks of the lines before the first is sent; NotSent if the program would refuse one."""
+    session = room.session("SCORER")
+    session.begin(tap, name)
+    need_no_places(session, lines)
+    session.need_agreed(asked_of(session, lines))
     plain = [Line(line.role, without_place(line.text)[0]) for line in lines]
-    for asked in [*asked_first(room, plain), *asked_of_places(room, lines)]:
-        if asked not in tap.agreed:
-            raise Asked(asked, [])
     if not room.folder.settings.handicap and (refused := preview.why_refused(room.folder, room.facts, plain)):
         raise NotSent(*refused)
 
 
-def asked_of_places(room: Room, lines: Sequence[Line]) -> Iterator[Question]:
-    """What is asked of boats that are put elsewhere: whether they are behind places now that they were ahead of."""
-    history, orders = room.session("SCORER").history, dict[int, LineOrder]()
-    for line in lines:
-        text, later = without_place(line.text)
-        command, number, sail, *other = [*text.split(), ""][:4]
-        if command not in ORDERING:
-            continue
-        race = room.facts.race(number).number
-        if race not in orders:
-            orders[race] = history.order(race)
-        order, marks = orders[race], history.waiting.marks(race)
-        if later:
-            history.waiting.one(race, later)
-        for mark in order.ahead_before(text, later) if command in ("FINISH", "BEFORE") else []:
-            if mark in marks:
-                yield question("finished-after", room.facts.called, mark=mark, sail=sail)
-                order.ahead[mark].discard(sail)
-        with contextlib.suppress(ValueError):
-            order.follow([command, sail, *filter(None, other)], Meant("back", later) if later else Meant())
+def need_no_places(session: TapSession, lines: Sequence[Line]) -> None:
+    """NotSent if a place is kept between two boats that go to another race: nobody knows of which race she is."""
+    words = [line.text.split() for line in lines]
+    placed = {(number, sail) for command, number, sail, *_ in (one for one in words if len(one) > 2) if command in PLACED}
+    for number in sorted({of for of, _ in placed} | {one[1] for one in words if one[0] == "STRIKE"}):
+        struck = {one[2] for one in words if one[:2] == ["STRIKE", number] and len(one) == 3}
+        gone = {sail for sail in struck if (number, sail) not in placed and any(boat == sail for _, boat in placed)}
+        race = session.facts.race(number)
+        going = [at for at, group in enumerate(race.order) if gone & set(group)]
+        marks = [one.mark for one in session.unread.of(race.number) if going and going[0] < one.place(race) <= going[-1]]
+        if marks:
+            raise NotSent(remark("places-among", marks=marks, race=race.number))

@@ -107,6 +107,23 @@ def later_groups(groups: Sequence[Sequence[str]], times: Times, at: int) -> list
     return found
 
 
+def places_just_ahead(order: Race, name: str) -> list[str]:
+    """The places between a boat and the one ahead of her."""
+    at = next((at for at, group in enumerate(order.order) if name in group), 0)
+    found = itertools.takewhile(lambda group: all(map(is_mark, group)), reversed(order.order[:at]))
+    return [mark for group in list(found)[::-1] for mark in group]
+
+
+def as_placed(groups: Sequence[Sequence[str]], times: Times) -> dict[str, int]:
+    """The moments of an order as they agree with it: a boat that somebody has put behind others, whatever the clock says, is no
+    earlier than those."""
+    latest, found = 0, dict(times)
+    for group in groups:
+        found |= {name: max(times[name], latest) for name in group if name in times}
+        latest = max([latest, *moments_in(group, found)])
+    return found
+
+
 def untimed_before(groups: Sequence[Sequence[str]], later: Sequence[Sequence[str]], times: Times) -> list[str]:
     """The boats just ahead of those at the end of an order of whom no moment is known."""
     before = list(groups)[:len(groups) - len(later)]

@@ -28,6 +28,8 @@ from raceoffice.web.rates import Rate
 from raceoffice.web.requests import Request, Wrong
 
 ROLES = ("FINISH", "JURY", "SCORER")
+# The file of them, in office/ of the first series that is served.
+DEVICES_FILE = "web.json"
 # Seconds that a device stays known, and between two writings of when it was heard.
 LONG, OFTEN = 14 * 86400, 60.0
 # The most devices of a role, the longest name of one, and how many letters name one to the scorer.

@@ -84,6 +84,8 @@ class KeptOffice:
     def open(self, ask: Ask) -> bool:
         """Opens the office, joins one that a window has, or takes over one whose window has gone; whether one
         is open then."""
+        if self.is_shut():
+            return self.open_again_with_settings(ask)
         with self.lock:
             if self.is_asked_to_close:
                 # Its last copy may still be being made.
@@ -96,6 +98,11 @@ class KeptOffice:
             except Trouble as trouble:
                 self.say(sentence(trouble))
                 return False
+
+    def is_shut(self) -> bool:
+        """Whether the office that this process keeps has lent its last session: it serves on, and lets nobody in."""
+        keeping = self.keeping
+        return keeping is not None and not keeping.service.is_over() and not keeping.service.lets_in()
 
     def is_opened(self, ask: Ask) -> bool:
         # They may have been changed since.

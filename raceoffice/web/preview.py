@@ -5,11 +5,14 @@ of decisions are computed.
 """
 from __future__ import annotations
 
+import contextlib
 import re
 from collections.abc import Sequence
 from dataclasses import dataclass
 
 from raceoffice.characters import utf8
+from raceoffice.corrected.times import Sheets
+from raceoffice.corrected.unsent import has_sheet, in_sheet
 from raceoffice.decisions import decision_lines
 from raceoffice.decisions.held import Known, holdings, without_one
 from raceoffice.decisions.points import OUT, Decided, Verdict, decided, held_by, taken_out
@@ -156,6 +159,26 @@ def reopened(folder: Folder, facts: Facts, given: str, known: Entries = NO_ENTRI
     own = held_by(found.ruling, journal, Known(*known)) if found else []
     commands = sorted({*own, *(line.text.split()[0] for line in due)} - {"CLEAR"})
     return Ruled(before, before, given, {}, (*lines, *due), (), " ".join([str(race), sail, *commands]))
+
+
+def times_left(folder: Folder, facts: Facts, lines: Sequence[Line]) -> list[Line]:
+    """The lines for what the sheet of times has of boats that are cleared, and the journal hasn't after these: the
+    committee's, as after any CLEAR of the jury."""
+    cleared = {(race_of(line), line.text.split()[2]) for line in lines if line.text.startswith("CLEAR ")}
+    found = list[Line]()
+    for race, sail in sorted(cleared):
+        # What keeps the times from being worked out is shown beside the sheet, and a line that is refused by the preview.
+        with contextlib.suppress(Trouble):
+            if has_sheet(folder, race):
+                journal = scored(folder.program, options_of(folder), facts.sheet.journal, lines).journal
+                own = Sheets(folder).beside(race, journal, others_in(folder, race, sail)).lines
+                found += [Line("SCORER", text) for text in own]
+    return found
+
+
+def others_in(folder: Folder, race: int, sail: str) -> list[str]:
+    """The boats of a race's sheet but one."""
+    return [other for other in in_sheet(folder, race) if other != sail]
 
 
 def has_row(text: str, row: str) -> bool:

@@ -2,6 +2,7 @@
 from __future__ import annotations
 
 import datetime
+import time
 import zoneinfo
 from collections.abc import Iterator
 
@@ -9,12 +10,17 @@ from raceoffice import time_zones
 from raceoffice.corrected.sheets import with_seconds
 from raceoffice.corrected.write_sheet import SheetOfRace
 from raceoffice.files import PRIVATE, text_if_any
+from raceoffice.series.abandoned import last_abandoned
 from raceoffice.series.folder import Folder
 from raceoffice.web.taps import Register, Sent, Tap
 
 Zone = datetime.tzinfo | None
-# The file in office/ with the zone of the series, and the most bytes of its name
-ZONE, LONGEST = "zone", 200
+# How long after a start another one is given in its place without a question, as one that is tapped again
+AGAIN = datetime.timedelta(minutes=1)
+# The file in office/ with the zones of the series, how many bytes of it are read, and how many zones it has at most
+ZONE, LONGEST, MOST = "zone", 1 << 16, 100
+# How it has the zone of a computer that isn't set by a name
+UNNAMED = "-"
 
 
 def starts_given(register: Register, race: int) -> list[Sent]:
@@ -37,6 +43,12 @@ def is_start_seen(register: Register, race: int, start: str, tap: Tap, by: str) 
     return with_seconds("start", tap.was) == start or any(start_of(one) == start and one.by == by for one in last)
 
 
+def is_just_given(zone: Zone, start: str, at: int) -> bool:
+    """Whether a start is within a minute of a moment: boats may have sailed by an older one for long."""
+    moment = begun(zone, start, at, at)
+    return moment is not None and abs(utc(at) - moment) <= AGAIN
+
+
 def was_given_before(register: Register, race: int, start: str, at: int) -> bool:
     """Whether the start of a race is that of a tap before a moment."""
     return any(start_of(one) == start and one.at <= at for one in starts_given(register, race)[-1:])
@@ -44,16 +56,29 @@ def was_given_before(register: Register, race: int, start: str, at: int) -> bool
 
 # The clock of a race
 
+def zone_of_race(folder: Folder, register: Register, race: int, at: int) -> Zone:
+    """The zone by whose clock a race goes from its start to its end: the one that was in force when a tap gave it its first
+    start since it was abandoned, or at a moment if none has."""
+    since = last_abandoned(folder, race)
+    return zone_of(folder, next((one.at for one in starts_given(register, race) if one.at > since), at))
+
+
 def clock_of_race(folder: Folder, register: Register, race: int, start: str, at: int) -> str:
-    """A moment by the clock of a race, which isn't changed between its start and its end: that of the series' zone at the
-    start, or if there is none yet, at the moment itself."""
+    """A moment by the clock of a race: that of its zone at the start, or if there is none yet, at the moment itself."""
     taps = [one.at for one in starts_given(register, race) if start_of(one) == start]
-    return clock_text(folder, at, begun(zone_of(folder), start, at, taps[-1] if taps else None))
+    given_at = taps[-1] if taps else at
+    return clock_since(zone_of_race(folder, register, race, given_at), start, at, given_at)
 
 
-def clock_text(folder: Folder, at: int, since: datetime.datetime | None = None) -> str:
-    """A moment by the clock that the series' zone had at another, or has then."""
-    moment, zone = utc(at), zone_of(folder)
+def clock_since(zone: Zone, start: str, at: int, given_at: int) -> str:
+    """A moment by the clock that goes on as it was at a start, which a tap gave at `given_at`. A start that was given only
+    after the moment is the last one before that."""
+    return clock_text(zone, at, begun(zone, start, at, given_at if given_at < at else None))
+
+
+def clock_text(zone: Zone, at: int, since: datetime.datetime | None = None) -> str:
+    """A moment by the clock that a zone had at another, or has then."""
+    moment = utc(at)
     offset = (since or moment).astimezone(zone).utcoffset() or datetime.timedelta()
     return (moment + offset).strftime("%H:%M:%S")
 
@@ -81,14 +106,14 @@ def moments_of(zone: Zone, clock: str, near: datetime.datetime) -> Iterator[date
 
 def by_clock_of_start(folder: Folder, register: Register, race: int, sheet: SheetOfRace, at: int) -> None:
     """Puts the finishes that were tapped before a start was given, at `at`, by the clock that the race has then."""
-    since = begun(zone_of(folder), sheet.starts[0], at, at) if sheet.starts else None
+    start, zone = sheet.starts[0] if sheet.starts else "", zone_of_race(folder, register, race, at)
     for sent in list(register.sent.values()):
         words = sent.line.split()
         if words[:2] != ["FINISH", str(race)] or len(words) != 3 or not sent.made or not sent.at:
             continue
         held = sheet.cells(words[2])["finish"]
         if held and held == sent.made.get("finish"):
-            sheet.put(sheet.row(words[2]), "finish", clock_text(folder, sent.at, since))
+            sheet.put(sheet.row(words[2]), "finish", clock_since(zone, start, sent.at, at))
 
 
 def clock_shown(folder: Folder) -> list[list[int]]:
@@ -100,13 +125,32 @@ def utc(at: int) -> datetime.datetime:
     return datetime.datetime.fromtimestamp(at / 1000, datetime.timezone.utc)
 
 
-def zone_of(folder: Folder) -> Zone:
-    """The zone of the series; None for that of this computer."""
-    name = zone_kept(folder) or folder.settings.zone
+# The zone of the series
+
+def zone_of(folder: Folder, at: int | None = None) -> Zone:
+    """The zone by which the series goes, or went at a moment; None for that of this computer."""
+    zones = zones_kept(folder)
+    held = [name for since, name in zones if at is None or since <= at] or [name for _, name in zones[:1]]
+    name = held[-1] if held else folder.settings.zone
     return zoneinfo.ZoneInfo(name) if name else None
 
 
 def zone_kept(folder: Folder) -> str:
     """The zone by whose clock the races go that are on, as the last opening has noted it; empty if it has none."""
-    name = text_if_any(folder.file(PRIVATE, ZONE), LONGEST)
-    return name if time_zones.is_name(name) else ""
+    return next((name for _, name in reversed(zones_kept(folder))), "")
+
+
+def zones_kept(folder: Folder) -> list[tuple[int, str]]:
+    """The zones by which the series went, each with the moment since when, and empty for that of this computer. An older
+    package has noted one alone."""
+    lines = [line.rpartition(" ") for line in text_if_any(folder.file(PRIVATE, ZONE), LONGEST).splitlines()]
+    found = [(int(since) if since.isdecimal() else 0, "" if name == UNNAMED else name) for since, _, name in lines]
+    return [(since, name) for since, name in found if not name or time_zones.is_name(name)]
+
+
+def note_zone(folder: Folder, name: str) -> None:
+    """Notes that the series goes by a zone from now on."""
+    zones = zones_kept(folder)
+    if [held for _, held in zones[-1:]] != [name]:
+        zones.append((int(time.time() * 1000) if zones else 0, name))
+        folder.set_note(ZONE, "".join(f"{since} {held or UNNAMED}\n" for since, held in zones[-MOST:]).encode())

@@ -2,6 +2,7 @@
 from __future__ import annotations
 
 import asyncio
+import base64
 import contextlib
 import dataclasses
 import functools
@@ -14,10 +15,12 @@ from dataclasses import dataclass, field
 from email.utils import formatdate
 from typing import Any
 
+from raceoffice.results.http_answers import VERSIONS
+
 # Seconds for a request's head to come, for its body, and for a connection without a request.
 HEAD_TIME, BODY_TIME, IDLE = 10.0, 30.0, 70.0
 # The most bytes of a request's head and of its first line; how many fields and cookies it may have, and how many parts
-# its path. Whatever it has, reading it takes the thread of all connections less than a millisecond.
+# its path. Whatever it has, reading it takes the thread of all connections about a millisecond.
 HEAD, LINE = 16 << 10, 2 << 10
 FIELDS, COOKIES, PARTS = 100, 200, 16
 REASONS = {200: "OK", 204: "No Content", 301: "Moved Permanently", 304: "Not Modified",
@@ -121,9 +124,14 @@ def reply_of(values: object, status: int = 200, fields: Mapping[str, str] | None
     return Reply(status, JSON, data, fields or {})
 
 
+def tag_of(data: bytes) -> str:
+    """What tells a text from others: 48 bits of its SHA-256, since each file of a first visit has one."""
+    return base64.b64encode(hashlib.sha256(data).digest())[:8].decode()
+
+
 def tagged(request: Request, kind: str, data: bytes, is_part: bool = False) -> Reply:
     """A text that a browser keeps, and asks about by its tag."""
-    tag = f'"{hashlib.sha256(data).hexdigest()[:20]}"'
+    tag = f'"{tag_of(data)}"'
     fields = {"ETag": tag, "Cache-Control": "no-cache"}
     if tag in request.fields.get("if-none-match", ""):
         return Reply(304, kind, b"", fields, is_part=is_part)
@@ -194,7 +202,7 @@ def request_of(head: bytes, address: str) -> Request:
         raise Wrong(431)
     line, *lines = head.decode("latin-1").split("\r\n")
     words = line.split(" ")
-    if len(words) != 3 or not words[2].startswith("HTTP/1.") or not words[1].startswith("/"):
+    if len(words) != 3 or words[2] not in VERSIONS or not words[1].startswith("/"):
         raise Wrong(400)
     fields: dict[str, str] = {}
     for text in filter(None, lines):

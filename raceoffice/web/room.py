@@ -11,7 +11,7 @@ import time
 from collections.abc import Callable, Sequence
 
 from raceoffice import system
-from raceoffice.errors import NoSeat, NotSent, Served, Trouble, as_trouble
+from raceoffice.errors import Lost, NoSeat, NotNow, NotSent, Served, Trouble, as_trouble
 from raceoffice.files import PRIVATE, PRIVATE_MODE, replace_whole, text_if_any
 from raceoffice.program.journal import Race
 from raceoffice.program.link import Link, Sheet
@@ -25,9 +25,11 @@ from raceoffice.session.facts import Facts
 from raceoffice.session.question_words import question
 from raceoffice.session.undo import later_entry
 from raceoffice.traces import guarded
-from raceoffice.web.finish_order import Moments, later_in_order, line_in_order, without_place
+from raceoffice.web.finish_order import Moments, as_placed, later_in_order, line_in_order, without_place
+from raceoffice.web.late_taps import asked_if_abandoned, asked_of_new_places
 from raceoffice.web.preview import NO_ENTRIES, decided_shown
 from raceoffice.web.race_start import clock_shown
+from raceoffice.web.row_changes import TAKING, entries_of_starts, is_timed_again, recorded_again
 from raceoffice.web.sheet_waits import with_reasons
 from raceoffice.web.states import (Values, boats_of, moves_of, races_of, rules_of, said_of, standing_of, unlisted)
 from raceoffice.web.tap_session import DROPPED, TapSession
@@ -199,8 +201,13 @@ class Room:
                 self.reader.close()
                 self.log("left")
             self.reader = None
-            if self.trouble != why:
-                self.trouble = why
+            self.set_trouble(why)
+
+    def set_trouble(self, trouble: str) -> None:
+        """Tells pages why nothing new is seen of the office."""
+        with self.looking:
+            if self.trouble != trouble:
+                self.trouble = trouble
                 self.news()
 
     def log(self, what: str) -> None:
@@ -216,19 +223,22 @@ class Room:
                 with guarded(self.folder.path):
                     self.look()
                 pause = LOOK
+            except Lost as lost:
+                self.leave(str(lost))
+                pause = LATER if isinstance(lost, NoSeat) else AGAIN
             except Trouble as trouble:
-                self.leave(str(trouble))
-                pause = LATER if isinstance(trouble, NoSeat) else AGAIN
+                self.set_trouble(str(trouble))
+                pause = AGAIN
 
     def look(self) -> None:
         """Reads the journal if its file has grown, and the places that windows keep."""
         if self.folder.is_closing():
-            raise Trouble(remark("office-closing"))
+            raise Lost(remark("office-closing"))
         if self.reader is None:
             self.reader = self.folder.link()
             self.log("came")
         elif heard(self.reader) is not None:
-            raise Trouble(remark("office-lost"))
+            raise Lost(remark("office-lost"))
         self.see(self.reader)
         if self.places.state() != self.places_seen:
             with self.looking:
@@ -257,9 +267,12 @@ class Room:
                 with session.as_it_is():
                     # What the journal has is known by now.
                     return self.done(tap) or self.done_now(session, tap)
-            except Trouble as trouble:
-                self.give_up(session, trouble)
+            except Lost as lost:
+                self.give_up(session, lost)
                 raise
+            except Trouble as trouble:
+                # Nothing is wrong with the office, as with a sheet that can't be read: the tap waits.
+                raise NotNow(*trouble.said) from None
         finally:
             self.lock.release()
 
@@ -273,35 +286,50 @@ class Room:
         if self.late:
             raise Trouble(remark("line-unanswered"))
 
-    def give_up(self, session: TapSession, trouble: Trouble) -> None:
-        """Leaves an office that doesn't answer, or has gone."""
+    def give_up(self, session: TapSession, lost: Lost) -> None:
+        """Leaves an office that doesn't answer, or has gone. Each link uses up one of its sessions."""
         if session.unanswered and session.link and heard(session.link) is None:
             self.late.append(session.link)
             session.link = None
         session.unanswered = ""
         session.disconnect()
-        self.leave(str(trouble))
+        self.leave(str(lost))
 
     def done(self, tap: Tap) -> Values | None:
-        """What came of a tap that was done before; None if it has yet to be."""
-        sent = self.register.sent.get(tap.id)
-        if sent is None:
-            return None
-        if not sent.answer:
+        """What came of a tap that was done before; None if it has yet to be. NotSent if the journal has lost it since."""
+        sent = self.answered(tap.id)
+        if sent and self.is_lost(sent):
+            raise NotSent(remark("undo-gone", line=sent.line))
+        return outcome_of(sent, True, self.facts.sheet.journal) if sent else None
+
+    def answered(self, id: str) -> Sent | None:
+        """A tap that has an answer, or of which the journal or the places say what came of it."""
+        sent = self.register.sent.get(id)
+        if sent and not sent.answer:
             answer, mark = self.answer_found(sent)
             if not answer:
                 return None
             self.register.end(sent.id, answer, mark)
-        return outcome_of(sent, True, self.facts.sheet.journal)
+        return sent
+
+    def is_lost(self, sent: Sent) -> bool:
+        """Whether the journal of the open office lacks the line of a tap, as after an older journal was put back, and nobody
+        has typed it again. That of a boat who was taken out is meant to be gone."""
+        line, journal = sent.own.split(maxsplit=3)[3] if sent.own else "", self.facts.sheet.journal
+        if self.trouble or not line or sent.own in journal:
+            return False
+        if any(sent.is_before(entry, at) and entry.split(maxsplit=3)[3] == line for at, entry in enumerate(journal, 1)):
+            return False
+        command, *rest = line.split()
+        sail = "".join(rest[:1] if command == "ENTER" else rest[1:2])
+        return not any(entry.line == f"removed {sail}" for entry in self.folder.logged())
 
     def settle(self) -> None:
         """Notes what came of each tap that was begun and never ended, as the journal has it now."""
         with self.lock:
             self.register.learn(self.facts.sheet.journal)
             for sent in [one for one in self.register.sent.values() if not one.answer and one.line.split()]:
-                answer, mark = self.answer_found(sent)
-                if answer:
-                    self.register.end(sent.id, answer, mark)
+                self.answered(sent.id)
 
     def answer_found(self, sent: Sent) -> tuple[str, str]:
         """The answer to something that was begun and never ended, by the journal or by the places that are
@@ -328,7 +356,7 @@ class Room:
         """Does a tap; what came of it."""
         if tap.undoes:
             # What came of that one is known before it is undone.
-            self.done(Tap(tap.undoes, ""))
+            self.answered(tap.undoes)
         line, before, last = self.line_of(session, tap), self.facts.standing, self.last
         is_timed = self.is_for_sheet(tap.id, line, session.role)
         is_taken = TimedTap(session, line).is_taken() if is_timed else session.is_tap_taken(line)
@@ -361,6 +389,7 @@ class Room:
     def line_of(self, session: TapSession, tap: Tap) -> str:
         """The line of a tap, of which it is clear that it is meant, and where a finisher belongs."""
         first, *rest = tap.line.split() or [""]
+        session.need_agreed(asked_if_abandoned(session, tap.line))
         if tap.undoes and self.folder.settings.handicap and (line := self.line_of_undo(session, tap)):
             # Only the register has what goes back into the sheet, whatever line the page has for it.
             return line
@@ -388,33 +417,35 @@ class Room:
         typed, times = with_typed_times(self.folder, plain)
         line = session.line(typed)
         if self.is_for_sheet(tap.id, line, session.role):
-            if line.startswith("STRIKE ") and not session.is_begun:
-                # She may have another finish by now than the one that was struck on the device.
+            if line.split()[0] in TAKING and not session.is_begun:
                 self.ask_again(session, tap, line)
             return f"{line} {times}".rstrip()
         if line.startswith("FINISH "):
             order = self.order_with_places(session, session.facts.race(line.split()[1]))
             own = self.register.places_by(session.name, order.number)
-            line, session.later = line_in_order(session.facts, self.times_in(session, order.number), own, tap, line, order)
+            line, session.later = line_in_order(session.facts, self.times_in(session, order), own, tap, line, order)
         self.ask_again(session, tap, line)
+        if line.startswith(("BEFORE ", "TIE ")) and not session.later:
+            session.need_agreed(asked_of_new_places(session, line, self.order_with_places(session, session.facts.race(line.split()[1]))))
         return line
 
     def later_of_place(self, session: TapSession, tap: Tap, number: str) -> str:
         """Who finished after the one whose place a tap keeps; empty if nobody who is recorded did."""
         order = self.order_with_places(session, session.facts.race(number))
-        return later_in_order(session.facts, self.times_in(session, order.number), tap, order)
+        return later_in_order(session.facts, self.times_in(session, order), tap, order)
 
     def order_with_places(self, session: TapSession, race: Race) -> Race:
         """The order of a race with the places that are kept."""
         return Race(race.number, session.history.order(race.number).standing(session.unread.marks(race.number)))
 
-    def times_in(self, session: TapSession, race: int) -> dict[str, int]:
-        """When each boat and each place of a race crossed the line, as far as that is known. A boat that was put into a
+    def times_in(self, session: TapSession, order: Race) -> dict[str, int]:
+        """When each boat and each place of an order crossed the line, as far as that is known. A boat that was put into a
         place did when that was kept."""
-        moments, history = self.register.moments_now(self.facts.sheet.journal), session.history
+        moments, history, race = self.register.moments_now(self.facts.sheet.journal), session.history, order.number
         marks = self.times_of_places(history, race)
         boats = {sail: at for (of, sail), at in moments.items() if of == race}
-        return boats | {sail: marks[mark] for sail, mark in history.boats_in_places(race).items() if mark in marks} | marks
+        placed = {sail: marks[mark] for sail, mark in history.boats_in_places(race).items() if mark in marks}
+        return as_placed(order.order, boats | placed | marks)
 
     def times_of_places(self, history: History, race: int) -> dict[str, int]:
         """When each place of a race was kept, by a tap or in a window."""
@@ -450,7 +481,8 @@ class Room:
         return sent is not None and sent.answer.startswith(("OK ", "NOTED"))
 
     def ask_again(self, session: TapSession, tap: Tap, line: str) -> None:
-        """Asks if the journal has this very line since the tap: somebody else may have sent it."""
+        """Asks if the journal has this very line since the tap: somebody else may have sent it. So it is if somebody else has
+        struck its boat since, and recorded her again: she isn't as the device showed her."""
         race, words = session.facts.race_of(line), line.split()
         if tap.undoes or not tap.seen:
             return
@@ -458,12 +490,16 @@ class Room:
             # The office refuses it (8).
             return
         commands, wanted, journal = session.facts.commands, as_kept(line), session.facts.sheet.journal
+        own = self.register.entries_by(session.name, journal) | entries_of_starts(self.register)
+        others = [at for at in range(tap.seen + 1, len(journal) + 1) if journal[at - 1] not in own]
         # A finisher whose tap was undone may be tapped again on the same device, and a sheet's finish struck again.
         is_own_meant = words[0] in PLACED or self.folder.settings.handicap
-        own = self.register.entries_by(session.name, journal) if is_own_meant else ()
-        later = [at for at, text in enumerate(commands[tap.seen:], tap.seen + 1) if text == wanted and journal[at - 1] not in own]
+        later = [at for at in (others if is_own_meant else range(tap.seen + 1, len(journal) + 1))
+                 if commands[at - 1] == wanted and not is_timed_again(commands[at - 1:])]
         if later:
             session.is_agreed(question("sent-already", session.facts.called, line=line, entry=later[-1]))
+        if words[0] in TAKING and (other := recorded_again(session, line, [commands[at - 1] for at in others])):
+            session.is_agreed(question("other-since", session.facts.called, line=line, other=other))
 
 
 def held_alone(folder: Folder, address: str = "") -> int:

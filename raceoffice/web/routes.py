@@ -31,7 +31,7 @@ from raceoffice.web.downloads import download
 from raceoffice.web.finish_order import Elsewhere
 from raceoffice.web.gate import MARK, ROLES, Device, plain_name
 from raceoffice.web.hosting import Waiting
-from raceoffice.web.requests import JSON, Reply, Request, Wrong, reply_of, tagged
+from raceoffice.web.requests import JSON, Reply, Request, Wrong, reply_of, tag_of, tagged
 from raceoffice.web.room import Room
 from raceoffice.web.rulings import one_line
 from raceoffice.web.states import Values, question_of, remarks_of, said_of
@@ -162,7 +162,7 @@ class Routes:
             return await asyncio.get_running_loop().run_in_executor(self.pool, self.guarded, work, *values)
         except NotNow as why:
             # The device keeps the tap, and its place among those that wait.
-            raise Wrong(503, sentence(why), said=remarks_of(why.said)) from None
+            raise Wrong(503, sentence(why), "waits", said=remarks_of(why.said)) from None
         except NotSent as why:
             raise Wrong(422, sentence(why), said=remarks_of(why.said)) from None
         except Asked as asked:
@@ -385,7 +385,7 @@ class Routes:
         """Sends the lines of a correction, asks of them alone, or leaves what is left of one."""
         values = request.values()
         if values.get("ask") is True:
-            corrections.ask_first(room, values)
+            corrections.ask_whole(room, values, device.name)
             return reply_of({"outcome": "asked", "version": room.version})
         if values.get("leave") is True:
             corrections.leave_rest(room, values)
@@ -514,17 +514,25 @@ class Routes:
         return reply_of({"class": os.path.basename(path), "open": is_open, "said": office.words()})
 
 
-def static_files() -> dict[str, tuple[str, bytes]]:
+def static_files(top: str = STATIC) -> dict[str, tuple[str, bytes]]:
     """The pages, styles, scripts and texts, with their kinds. No part of a request reaches the file system."""
     found = {}
-    for folder, _, names in os.walk(STATIC):
+    for folder, _, names in os.walk(top):
         for name in names:
             path = os.path.join(folder, name)
             if kind := KINDS.get(os.path.splitext(name)[1]):
                 with open(path, "rb") as file:
                     data = file.read()
-                found[os.path.relpath(path, STATIC).replace(os.sep, "/")] = kind, shorter(kind, data)
-    return found
+                found[os.path.relpath(path, top).replace(os.sep, "/")] = kind, shorter(kind, data)
+    return found | {"worker.js": (KINDS[".js"], worker_of(found))}
+
+
+def worker_of(files: dict[str, tuple[str, bytes]]) -> bytes:
+    """The worker of these files: it is another one if any of them is, and keeps these and no others."""
+    tags, worker = {name: tag_of(data) for name, (_, data) in sorted(files.items())}, files["worker.js"][1]
+    kept = {f"/office/static/{name}": tag for name, tag in tags.items() if f'"{name}"'.encode() in worker}
+    release = json.dumps({"name": tag_of(json.dumps(tags).encode()), "tags": {"/office/finish/": tags["finish.html"], **kept}})
+    return worker.replace(b'{name: "", tags: {}}', release.encode())
 
 
 def shorter(kind: str, data: bytes) -> bytes:

@@ -3,18 +3,22 @@ is done once, and an undo takes away nothing that somebody else has recorded sin
 from __future__ import annotations
 
 import itertools
+from collections.abc import Sequence
 
 from raceoffice.corrected.write_sheet import SheetOfRace
 from raceoffice.errors import NotSent
 from raceoffice.remarks import Remark, remark
 from raceoffice.program.messages import ROLES
+from raceoffice.series.line_order import ORDERING
 from raceoffice.series.race_sheets import sheet_name
 from raceoffice.session.undo import what_about
 from raceoffice.web.tap_session import TapSession
-from raceoffice.web.taps import Register, Sent, finisher_of
+from raceoffice.web.taps import Register, Sent, finisher_of, number_of
 
 # Taps that change a boat's row.
 OF_ROW = ("FINISH", "ELAPSED", "STRIKE", "MARK", "CLEAR")
+# Lines that take something away of a boat as a device shows her.
+TAKING = ("STRIKE", "MARK", "PENALTY", "CLEAR")
 Cells = dict[str, str]
 
 
@@ -53,6 +57,44 @@ def is_answered(session: TapSession, sent: Sent) -> bool:
     own = {part.own for part in session.register.parts(sent.id)}
     return any(sent.is_before(entry, number) and entry not in own and is_about_same(sent.line, entry.split(maxsplit=3)[3])
                for number, entry in enumerate(session.facts.sheet.journal, 1))
+
+
+# What was recorded since a tap
+
+def entries_of_starts(register: Register) -> set[str]:
+    """The entries by which races were timed again that got another start: nobody has struck those boats."""
+    starts = {one.id for one in register.sent.values() if one.line.startswith("START ")}
+    return {one.own for one in register.sent.values() if main_of(one) in starts}
+
+
+def is_timed_again(lines: Sequence[str]) -> bool:
+    """Whether the first of some lines strikes a boat who has a time again after it, as when her race is timed again."""
+    command, race, sail, *_ = [*lines[0].split(), "", ""]
+    return command == "STRIKE" and any(line.startswith(f"TIME {race} {sail} ") for line in lines)
+
+
+def recorded_again(session: TapSession, line: str, journal: Sequence[str]) -> str:
+    """The line by which somebody else has recorded the boat of a line again since its tap, having struck her; empty if
+    nobody has. `journal` are the others' commands since: those of a sheet that was changed by hand are there alone."""
+    _, race, sail, *_ = line.split()
+    lines = [other for other in journal if other.split()[0] in (*ORDERING, "TIME") and other.split()[1:3] == [race, sail]]
+    taps = [one.line for one in others_of_row(session, line)] if session.folder.settings.handicap else []
+    return last_after_strike(taps) or last_after_strike(lines)
+
+
+def last_after_strike(lines: Sequence[str]) -> str:
+    """The last of some lines for a boat that records her after she was struck; empty if there is none."""
+    # A finish with a second time takes the place of that one.
+    struck = next((at for at, other in enumerate(lines) if other.startswith("STRIKE ") or len(other.split()) == 5), len(lines))
+    return next((other for other in reversed(lines[struck:]) if not other.startswith("STRIKE ")), "")
+
+
+def others_of_row(session: TapSession, line: str) -> list[Sent]:
+    """What other devices have changed of a boat's finish in the sheet since the tap of this session."""
+    tap, journal = session.tap, session.facts.sheet.journal
+    return [one for one in session.register.sent.values()
+            if "/" not in one.id and one.line.startswith(("STRIKE ", "FINISH ", "ELAPSED ")) and row_of(one.line) == row_of(line)
+            and one.by != session.name and has_changed(one) and (one.at > tap.at or number_of(one, journal) > tap.seen)]
 
 
 # What an undo may not take away

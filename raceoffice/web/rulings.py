@@ -13,21 +13,28 @@ from typing import Any
 from raceoffice.errors import NotSent
 from raceoffice.program.replay import Line
 from raceoffice.remarks import remark
-from raceoffice.session.confirm import questions
 from raceoffice.session.dialogue import Question
-from raceoffice.session.question_words import question
 from raceoffice.web import preview
+from raceoffice.web.plans import MOST, asked_of, told_what_was_sent
 from raceoffice.web.requests import Wrong
 from raceoffice.web.room import Room
 from raceoffice.web.series_settings import tag_of
 from raceoffice.web.states import Values, remarks_of
-from raceoffice.web.tap_session import Asked
 from raceoffice.web.taps import NoTap, Tap, part_id
+
+# Lines that give a boat something which CLEAR takes
+GIVING = ("MARK", "PENALTY", "REDRESS")
 
 
 def ruled(room: Room, values: Mapping[str, Any], is_begun: bool = False) -> preview.Ruled:
     """The decision that a request gives, with its note, or the row of one that it takes out, or what it takes back of a boat
-    (`reopen`)."""
+    (`reopen`). A boat that is cleared has the time again that is in the sheet alone."""
+    found = ruled_alone(room, values, is_begun)
+    return replace(found, lines=(*found.lines, *preview.times_left(room.folder, room.facts, found.lines)))
+
+
+def ruled_alone(room: Room, values: Mapping[str, Any], is_begun: bool) -> preview.Ruled:
+    """The same without the times that boats have in a sheet alone."""
     known = room.register.known_in(room.facts.sheet.journal)
     if values.get("reopen") is True:
         return preview.reopened(room.folder, room.facts, one_line(values, "line"), known)
@@ -77,7 +84,8 @@ class Decision:
             self.keep(ruled(self.room, self.values))
         found: list[Values] = []
         for at, line in enumerate(lines):
-            found.append(self.room.do(line.role, self.name, self.part(at, line)))
+            with told_what_was_sent(found):
+                found.append(self.room.do(line.role, self.name, self.part(at, line)))
             if found[-1]["outcome"] != "taken":
                 return found
         if self.is_out and not self.is_written:
@@ -116,26 +124,19 @@ class Decision:
         if [f"{line.role} {line}" for line in found.lines] != self.values.get("lines"):
             raise NotSent(remark("decision-changed"))
         self.check(found)
-        for asked in self.asked_first(found.lines):
-            if asked not in self.tap.agreed:
-                raise Asked(asked, [])
+        session = self.room.session("JURY")
+        session.begin(self.tap, self.name)
+        session.need_agreed(one for one in asked_of(session, found.lines) if not is_known(one, found.lines))
         self.room.register.decide(self.tap.id, found.lines, found.stays)
         if not self.is_out:
             self.keep(found)
         return found.lines
 
     def part(self, at: int, line: Line) -> Tap:
-        """The tap of one of its lines. Who takes back one thing is asked about that alone: what CLEAR takes besides comes back."""
-        part = part_of(self.tap, at, line.text)
-        is_back = self.values.get("reopen") is True and line.text.startswith("CLEAR ")
-        return replace(part, agreed=(*part.agreed, *asked_first(self.room, [line]))) if is_back else part
-
-    def asked_first(self, lines: Sequence[Line]) -> list[Question]:
-        """What is asked of a decision. What is taken back alone clears nothing else."""
-        asked, race = asked_first(self.room, lines), self.room.facts.race(lines[0].text.split()[1]) if lines else None
-        if self.values.get("reopen") is not True or race is None:
-            return asked
-        return [question("correction", self.room.facts.called, race=race.number)] if race.counts else []
+        """The tap of one of its lines."""
+        part, lines = part_of(self.tap, at, line.text), self.room.register.decisions[self.tap.id]
+        known = [one for one in asked_of(self.room.session("JURY"), [line]) if is_known(one, lines)]
+        return replace(part, agreed=(*part.agreed, *known))
 
     def check(self, found: preview.Ruled) -> None:
         """NotSent if decisions.txt is another than the one that was shown, unless it has the decision already."""
@@ -147,12 +148,11 @@ class Decision:
         self.write(found)
 
 
-def asked_first(room: Room, lines: Sequence[Line]) -> list[Question]:
-    """What is asked of the first line for each boat and race. What is asked of a later one depends on the first."""
-    first: dict[tuple[str, ...], Line] = {}
-    for line in lines:
-        first.setdefault(tuple(line.text.split()[1:3]), line)
-    return [asked for line in first.values() for asked in questions(room.facts, line.role, line.text, ())]
+def is_known(asked: Question, lines: Sequence[Line]) -> bool:
+    """Whether a question isn't asked of some lines: not all of what CLEAR takes goes, as others of them give it back."""
+    about = [str(asked.values.get(name)) for name in ("race", "sail")]
+    return asked.kind == "clear-several" and any(
+        line.text.split()[0] in GIVING and line.text.split()[1:3] == about for line in lines)
 
 
 def written_of(tap: Tap) -> str:
@@ -162,7 +162,7 @@ def written_of(tap: Tap) -> str:
 
 def tap_of(values: Mapping[str, Any]) -> Tap:
     try:
-        return Tap.read({**values, "line": ""})
+        return Tap.read({**values, "line": ""}, MOST)
     except NoTap:
         raise Wrong(400, "this isn't a tap") from None
 

@@ -12,6 +12,7 @@ import os
 from collections.abc import Mapping
 from typing import Any
 
+from raceoffice import time_zones
 from raceoffice.characters import utf8
 from raceoffice.corrected.times import ROUNDINGS, RULES, Rules, Sheets
 from raceoffice.corrected.write_sheet import rules_text, with_rule, write_rules
@@ -62,9 +63,11 @@ def settings_kept(folder: Folder, office: KeptOffice) -> Values:
 
 
 def waiting(folder: Folder, kept: settings.Settings, opened: settings.Settings) -> list[str]:
-    """The settings of which the open office has others."""
+    """The settings of which the open office has others. While a race is on, the series may go on by the clock of another
+    zone than the one with which the office was opened."""
     found = [key for key, value in rules_of(kept).items() if value != rules_of(opened)[key]]
-    return found + (["zone"] if kept.zone != folder.settings.zone else [])
+    is_zone = kept.zone != folder.settings.zone or is_other_clock(folder, kept.zone or time_zones.like_computer())
+    return found + (["zone"] if is_zone else [])
 
 
 def times_rules(folder: Folder) -> Values:

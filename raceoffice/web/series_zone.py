@@ -13,7 +13,7 @@ from raceoffice.program.journal import Series
 from raceoffice.remarks import remark
 from raceoffice.series.folder import Folder
 from raceoffice.series.run_program import replayed
-from raceoffice.web.race_start import ZONE, clock_shown, zone_kept
+from raceoffice.web.race_start import clock_shown, note_zone, zone_kept
 from raceoffice.web.timed_taps import races_begun
 
 
@@ -24,7 +24,7 @@ def keep_zone(folder: Folder, say: Callable[[str], None]) -> None:
     if zone_kept(folder) and is_other_clock(folder, wanted) and (race := race_on(folder)):
         say(remark("zone-kept", race=race, zone=zone_kept(folder), other=wanted))
     else:
-        folder.set_note(ZONE, wanted.encode() if wanted else None)
+        note_zone(folder, wanted)
 
 
 def is_other_clock(folder: Folder, wanted: str) -> bool:

@@ -39,7 +39,8 @@ READY = "Ctrl-C closes the office."
 @dataclass(frozen=True)
 class Asked:
     """What a command line asks for. `new` are the roles that get a new link; `is_shown_here` opens the
-    scorer's page in a browser of this computer."""
+    scorer's page in a browser of this computer. `own` is the one address of this computer where devices are answered; empty:
+    that of the first folder's series.ini, or all."""
     folders: tuple[str, ...]
     port: int
     name: str
@@ -47,6 +48,7 @@ class Asked:
     key: str
     new: tuple[str, ...]
     is_shown_here: bool = False
+    own: str = ""
 
 
 class Web:
@@ -57,8 +59,9 @@ class Web:
         folders = list(map(Folder, asked.folders))
         parent = os.path.dirname(os.path.abspath(folders[0].path)) if folders else os.getcwd()
         scheme = "https" if asked.certificate else "http"
-        gate = gate_of(folders, asked.name, bool(asked.certificate))
-        address = f"{scheme}://{asked.name or addresses()[0]}:{asked.port}/"
+        self.own = asked.own or (folders[0].settings.address if folders else "")
+        gate = gate_of(folders, [name for name in (asked.name, self.own) if name], bool(asked.certificate))
+        address = f"{scheme}://{asked.name or self.own or addresses()[0]}:{asked.port}/"
         self.office = WebOffice(gate, parent, address, self.tell, to_come={folder.name for folder in folders})
         self.folders = folders
         self.routes = Routes(self.office)
@@ -97,7 +100,8 @@ class Web:
                   or role.lower() in self.asked.new]
         return {role: self.routes.link(role) for role in wanted}
 
-    def say_links(self) -> None:
+    def say_links(self) -> dict[str, str]:
+        """Says where the office is; the links that were made."""
         say(f"Board, for all:   {self.office.address}")
         made = self.links()
         for role, link in made.items():
@@ -110,6 +114,7 @@ class Web:
         if not self.asked.certificate:
             say("Plain HTTP: whoever is in this network and listens can read what devices send, also what lets "
                 "them write. Use a Wi-Fi of your own with a password, or --certificate.")
+        return made
 
     def secure(self) -> ssl.SSLContext | None:
         """What HTTPS needs, if it was asked for."""
@@ -128,7 +133,7 @@ class Web:
         loop, end = asyncio.get_running_loop(), asyncio.Event()
         loop.set_exception_handler(lambda _, context: None)
         host = Host(self.routes.answer, self.routes.room_for, self.note, self.routes.name_of)
-        await host.start("0.0.0.0", self.asked.port, secure)
+        await host.start(self.own or "0.0.0.0", self.asked.port, secure)
         await loop.run_in_executor(None, self.open_all)
         for number in system.STOPS:
             loop.add_signal_handler(number, functools.partial(self.stop, end, number))
@@ -136,9 +141,10 @@ class Web:
         self.office.board_news.start()
         threading.Thread(target=self.office.keep_board, daemon=True).start()
         await self.wait_for_board()
-        self.say_links()
+        made = self.say_links()
         if self.asked.is_shown_here:
-            webbrowser.open(self.routes.link("SCORER", False))
+            # Another link would end the one that was just shown.
+            webbrowser.open(made.get("SCORER") or self.routes.link("SCORER", False))
         say(READY)
         self.is_ready = True
         await end.wait()
@@ -155,12 +161,14 @@ class Web:
         end.set()
 
     def is_sure(self) -> bool:
-        """Whether Ctrl-C closes the office; if not, who may still write is said, and a second one closes it."""
-        writers = self.office.writers()
-        if not writers or time.monotonic() < self.sure_until:
+        """Whether Ctrl-C closes the office; if not, who may still write and which places are kept is said, and a second one
+        closes it."""
+        writers, places = self.office.writers(), self.office.places_kept()
+        if not (writers or places) or time.monotonic() < self.sure_until:
             return True
         self.sure_until = time.monotonic() + SURE
-        self.tell(f"These may still write: {', '.join(writers)}. Ctrl-C again within {SURE:.0f} seconds closes the office.")
+        still = [f"These may still write: {', '.join(writers)}."] if writers else []
+        self.tell("\n".join([*still, *places, f"Ctrl-C again within {SURE:.0f} seconds closes the office."]))
         return False
 
     async def wait_for_board(self) -> None:

@@ -4,7 +4,7 @@ from __future__ import annotations
 import contextlib
 import os
 import time
-from collections.abc import Callable, Iterator, Sequence
+from collections.abc import Callable, Iterable, Iterator, Sequence
 
 from raceoffice.errors import NotSent, Trouble
 from raceoffice.program.journal import Race
@@ -21,9 +21,10 @@ from raceoffice.session.facts import Facts
 from raceoffice.session.finishers import keep_or_send, send_or_place
 from raceoffice.session.seat import Done
 from raceoffice.session.session import Session
-from raceoffice.session.undo import undo
+from raceoffice.session.undo import line_if_moved, undo
 from raceoffice.terminal import Once
 from raceoffice.web.taps import Register, Sent, Tap, finisher_of, last_numbers, number_of
+from raceoffice.wording import count
 
 # How the register has a place that was dropped, or kept again.
 DROPPED, KEPT_AGAIN = "NONE", "AGAIN"
@@ -101,6 +102,11 @@ class TapSession(Session):
             return True
         raise Asked(asked, self.said)
 
+    def need_agreed(self, found: Iterable[Question]) -> None:
+        """Asks what wasn't agreed to."""
+        for asked in found:
+            self.is_agreed(asked)
+
     # A tap
 
     def begin(self, tap: Tap, name: str) -> None:
@@ -138,7 +144,16 @@ class TapSession(Session):
                 self.register.end(self.tap.undoes, "NOTED")
             return True
         self.done = self.done_by(sent)
+        self.ask_of_moved(self.done, sent)
         return undo(self)
+
+    def ask_of_moved(self, done: Done, sent: Sent | None) -> None:
+        """Asks where a boat or a place comes back if others have been moved past her since."""
+        entries = max(0, done.number - 1) or (sent.entries if sent else 0)
+        if sent and (line := line_if_moved(self, done, entries)):
+            asked = self.question("undo", line=sent.line, by=line)
+            if asked not in self.tap.agreed:
+                raise Asked(asked, self.said)
 
     def is_without_effect(self, sent: Sent | None) -> bool:
         """Whether a tap is known to have done nothing. By corrected time a line may be refused, or be without an answer,
@@ -149,9 +164,14 @@ class TapSession(Session):
 
     def done_by(self, sent: Sent | None) -> Done:
         """What a tap has done; NotSent if nothing stands of it."""
-        first, *rest = sent.line.split() if sent else [""]
-        if sent is None or not sent.answer.startswith(("OK ", "NOTED")) or first == "ABANDON":
+        if sent is None:
+            raise NotSent(remark("undo-none"))
+        first, *rest = sent.line.split()
+        if not sent.answer.startswith(("OK ", "NOTED")):
             raise NotSent(remark("undo-nothing"))
+        if first == "ABANDON":
+            lines = sum(one.answer.startswith("OK ") for one in self.register.parts(sent.id))
+            raise NotSent(remark("undo-abandon", race=rest[0], lines=count(lines, "line")))
         unread = Unread(sent.mark, self.facts.race(rest[0]).number, frozenset()) if sent.mark else None
         if not sent.entry:
             return Done(unread=unread, what="dropped" if rest[1:] == [DROPPED] else "kept")

@@ -5,6 +5,7 @@ from __future__ import annotations
 import contextlib
 import dataclasses
 import functools
+import itertools
 from collections.abc import Sequence
 
 from raceoffice.corrected.sheets import Entry, entries_of, with_seconds
@@ -16,13 +17,16 @@ from raceoffice.program.codes import OF_JURY
 from raceoffice.program.replay import Line
 from raceoffice.remarks import remark
 from raceoffice.series.folder import Folder
-from raceoffice.series.race_sheets import is_abandoned_since, races_with_sheet, sheet_name
+from raceoffice.series.abandoned import last_abandoned
+from raceoffice.series.race_sheets import races_with_sheet, sheet_name
 from raceoffice.series.read_list import bytes_of
 from raceoffice.series.sender import not_taken
-from raceoffice.session.sending import is_meant, transmit
+from raceoffice.session.answers import changes_said
+from raceoffice.session.dialogue import Said
+from raceoffice.session.sending import is_meant, say_declared, transmit
 from raceoffice.session.facts import Facts
 from raceoffice.terminal import sentence
-from raceoffice.web.race_start import by_clock_of_start, clock_of_race, clock_text, is_start_seen
+from raceoffice.web.race_start import by_clock_of_start, clock_of_race, clock_text, is_just_given, is_start_seen, zone_of_race
 from raceoffice.web.row_changes import cells_of, is_answered, is_made, note_tapped_too
 from raceoffice.web.states import Values, remarks_of
 from raceoffice.web.tap_session import TapSession
@@ -32,6 +36,9 @@ from raceoffice.web.timed_undo import lines_back
 DAY = 86400
 # What a tap of such a class may begin with that is done here. Any other line is sent as it is.
 TIMED = ("START", "TIMES", "FINISH", "ELAPSED", "STRIKE", "MARK", "CLEAR")
+
+# What is said of whom one line has moved
+OF_ONE_LINE = ("no-race", "no-move", "changed", "mixed", "moved", "declared")
 
 
 def is_timed_tap(folder: Folder, line: str, role: str) -> bool:
@@ -114,15 +121,27 @@ class TimedTap:
 
     def are_taken(self, lines: Sequence[str]) -> bool:
         """Sends lines; whether all that the tap is about were taken. After a refusal no more is sent of that boat, and
-        the others go on. The answer of a tap is that to its own boat."""
-        before, answers = self.session.answer, list[tuple[str, str]]()
+        the others go on. The answer of a tap is that to its own boat. It is said how each boat is after her last line, and
+        whom all lines have moved."""
+        before, answers, said = self.session.answer, list[tuple[str, str]](), dict[str, list[Said]]()
+        standing, length = self.session.facts.standing, len(self.session.facts.sheet.journal)
 
         def is_line_taken(line: str) -> bool:
+            start, sail = len(self.session.said), line.split()[2]
             with self.session.in_role(self.role_of(line)):
                 is_good = transmit(self.session, line)
-            answers.append((line.split()[2], self.session.answer))
+            answers.append((sail, self.session.answer))
+            said[sail] = [one for one in self.session.said[start:] if one.what not in OF_ONE_LINE]
+            del self.session.said[start:]
             return is_good
         not_taken(lines, is_line_taken)
+        self.session.tell_all(itertools.chain(*said.values()))
+        taken = [answer for _, answer in answers if answer.startswith("OK ")]
+        if taken and self.session.facts.race(str(self.race.number)).counts:
+            facts = self.session.facts
+            is_mixed = len(facts.sheet.journal) != length + len(taken)
+            self.session.tell_all(changes_said(facts, standing, facts.race(str(self.race.number)), is_mixed))
+        say_declared(self.session, standing)
         own = [answer for sail, answer in answers if self.sail in ("", sail)]
         refused = [answer for answer in own if answer.startswith("NO ")]
         self.session.answer = next(iter(refused or own[-1:]), before)
@@ -156,15 +175,18 @@ class TimedTap:
             sheet.code(self.sail, "")
 
     def start(self, sheet: SheetOfRace) -> None:
-        """Gives the race its start. If it has another one by now than the device showed, or was abandoned after the tap, that
-        is asked."""
+        """Gives the race its start. If it was abandoned after the tap, that is asked; and so is another start in place of one
+        that boats have sailed by, or that the device didn't show."""
         register, at, before, race = self.session.register, self.session.tap.at, sheet.starts, self.race.number
-        text = self.rest[0] if self.rest else clock_text(self.folder, at)
+        zone = zone_of_race(self.folder, register, race, at)
+        is_sailed_by = bool(before) and (sheet.has_finishes or not is_just_given(zone, before[0], at))
+        text = self.rest[0] if self.rest else clock_text(zone, at)
         self.rest = [text]
         sheet.start(text, self.session.facts.boats)
-        if not before and is_abandoned_since(self.folder, race, at):
-            self.session.is_yes(self.session.question("start-abandoned", race=race, written=sheet.starts[0]))
-        if before not in ([], sheet.starts) and not is_start_seen(register, race, before[0], self.session.tap, self.session.name):
+        if not before and (moment := last_abandoned(self.folder, race)) > at:
+            self.session.is_yes(self.session.question("start-abandoned", race=race, written=sheet.starts[0], moment=moment))
+        is_other = before not in ([], sheet.starts)
+        if is_other and (is_sailed_by or not is_start_seen(register, race, before[0], self.session.tap, self.session.name)):
             self.session.is_yes(self.session.question("start-since", race=race, start=before[0], written=sheet.starts[0]))
         by_clock_of_start(self.folder, register, race, sheet, at)
 
@@ -201,7 +223,9 @@ class TimedTap:
         if self.session.role == "SCORER":
             self.say_left_out(found.strangers)
         others = [line for line in found.lines if line not in own]
-        return own + [line for line in others if self.session.role != "JURY" or line.split()[2] == self.sail]
+        # In a race that counts somebody may have said No to what the sheet has of others.
+        is_alone = self.sail and (self.race.counts or self.session.role == "JURY")
+        return own + [line for line in others if not is_alone or line.split()[2] == self.sail]
 
     def say_left_out(self, sails: Sequence[str]) -> None:
         """Says whose rows are left out, until they are others once."""
@@ -258,12 +282,12 @@ def sheets_shown(folder: Folder) -> dict[int, Values]:
 
 
 def races_begun(folder: Folder) -> list[int]:
-    """The races whose sheets have a start, a time or a code, as far as they can be read."""
+    """The races whose sheets have a start or a time, as far as they can be read."""
     found = []
     for race in races_with_sheet(folder) if folder.settings.handicap else []:
         with contextlib.suppress(Trouble):
             rows, _ = entries_of(bytes_of(folder.file(sheet_name(race))), sheet_name(race))
-            found += [race] if any(row.cells["start"] or row.is_timed or row.code for row in rows) else []
+            found += [race] if any(row.cells["start"] or row.is_timed for row in rows) else []
     return found
 
 

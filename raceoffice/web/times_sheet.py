@@ -8,7 +8,7 @@ from collections.abc import Mapping, Sequence
 from typing import Any
 
 from raceoffice.characters import utf8
-from raceoffice.corrected.sheets import FORMS, entries_of
+from raceoffice.corrected.sheets import FORMS, TIMES, entries_of
 from raceoffice.corrected.times import RULES, Rules
 from raceoffice.corrected.write_sheet import SheetOfRace, is_form, with_rule
 from raceoffice.errors import NotSent, NotThere, Trouble
@@ -112,6 +112,9 @@ def put_cells(sheet: SheetOfRace, sail: str, cells: Mapping[str, Any], columns: 
         raise NotSent(remark("sheet-odd"))
     for key in columns:
         text = str(cells.get(key, "")).strip().replace(",", ".")
+        if key in TIMES:
+            # As it may be typed: 13.51.58
+            text = text.replace(".", ":")
         if text and not is_form(key, text):
             raise NotSent(remark("sheet-boat", sail=sail, written=text[:20], wanted=FORMS[key][1]))
         if key in cells:

@@ -13,10 +13,11 @@ from raceoffice.remarks import remark, system_remark
 from raceoffice.results.http_answers import Board
 from raceoffice.results.source import need_own_names
 from raceoffice.series.folder import Folder
+from raceoffice.series.unknown_finishers import places_by_race
 from raceoffice.terminal import sentence
 from raceoffice.traces import guarded
 from raceoffice.web.declarations import Declarations
-from raceoffice.web.gate import Gate
+from raceoffice.web.gate import DEVICES_FILE, Gate
 from raceoffice.web.hosting import Hub
 from raceoffice.web.kept_office import KeptOffice
 from raceoffice.web.live_board import TICK, LiveBoard
@@ -80,7 +81,7 @@ class WebOffice:
             office = KeptOffice(folder, lambda text: self.tell_of(folder.name, text))
             found = Class(room, office, Declarations(room, office, self.gate.holding))
             if not self.classes and not self.gate.path:
-                self.gate.move(folder.file(PRIVATE, "web.json"))
+                self.gate.move(folder.file(PRIVATE, DEVICES_FILE))
             self.classes = {**self.classes, folder.name: found}
             self.to_come.discard(folder.name)
             self.left_out.pop(folder.name, None)
@@ -124,6 +125,11 @@ class WebOffice:
         return [f"{device.name} ({device.role.lower()}{taps_held(device.unsent)})" for device in self.gate.devices.values()
                 if device.heard > self.gate.clock.now() - RECENT or device.unsent and self.gate.lets_in(device.mark)]
 
+    def places_kept(self) -> list[str]:
+        """The places of finishers without a sail in each office that this process keeps, as sentences."""
+        kept = [(name, one.room.history.waiting.all) for name, one in self.classes.items() if one.office.keeping]
+        return [f"{name}: {remark('places-kept', places=places_by_race(waiting))}" for name, waiting in kept if waiting]
+
     def close(self) -> None:
         """Closes the offices that this process keeps, side by side, and leaves the others."""
         self.is_ending.set()
@@ -147,13 +153,13 @@ class WebOffice:
             one.office.is_hurried = True
 
 
-def gate_of(folders: list[Folder], name: str, is_secure: bool) -> Gate:
-    """Who may write, as the first folder's file has it."""
+def gate_of(folders: list[Folder], names: list[str], is_secure: bool) -> Gate:
+    """Who may write, as the first folder's file has it. `names` are names of this computer, beside those that it has itself."""
     for folder in folders:
         folder.make_private()
     try:
-        path = folders[0].file(PRIVATE, "web.json") if folders else ""
-        return Gate(path, [name] if name else [], is_secure)
+        path = folders[0].file(PRIVATE, DEVICES_FILE) if folders else ""
+        return Gate(path, names, is_secure)
     except OSError as cause:
         raise Trouble(remark("file-unused", name="office/web.json", why=system_remark(cause))) from None
 

@@ -2,13 +2,14 @@
 tapped has its moment by the office's clock all the same, or somebody is asked."""
 from __future__ import annotations
 
+import json
 import os
 import signal
 import time
 import unittest
 
 import helpers
-from devices import Device
+from devices import Device, Line
 from web_office import WebTrial, finishes
 
 HOUR, DAY = 3_600_000, 86_400
@@ -19,6 +20,13 @@ WRONG = """(() => {
     Date.now = () => real() + window.jump;
 })()"""
 SET = "window.jump = {0}; localStorage.setItem('jump', '{0}')"
+# The time that passes in a page stops while its phone sleeps.
+ASLEEP = """(() => {
+    const passed = performance.now.bind(performance);
+    window.slept = 0;
+    performance.now = () => passed() - window.slept;
+})()"""
+SLEEP = "window.slept += 10000"
 NO_WORKER = "Object.defineProperty(navigator, 'serviceWorker', {value: undefined})"
 OFFICE = "import('/office/static/office.js')"
 # By how many milliseconds the page is wrong about the office's clock: both are on one computer.
@@ -51,6 +59,7 @@ class ClockTrial(WebTrial):
 
 class Clock(ClockTrial):
     """Two phones record one class: the clock says who was first."""
+    net: Line
 
     def test_loaded_without_a_connection(self) -> None:
         """The page is loaded again without a connection: its taps are compared by the office's clock."""
@@ -146,6 +155,138 @@ class Clock(ClockTrial):
             ann.choose("then")
         self.settle(ann)
         self.assertEqual(self.journal(), [*finishes("NED12", "GBR7"), "FINISH STRIKE 1 GBR7", *finishes("FRA9")])
+
+    def away(self) -> Device:
+        """A phone that has sent one tap, and has no connection any more."""
+        self.net = self.line()
+        ann = self.wrong(0, self.net.own, ASLEEP)
+        ann.tap("GBR101")
+        self.settle(ann)
+        self.is_kept(ann)
+        self.net.cut()
+        ann.until(AWAY)
+        return ann
+
+    def moment_of(self, phone: Device, sail: str) -> float:
+        """When a boat was tapped, as the office has it, in seconds."""
+        return float(phone.run(f"{OFFICE}.then(office => office.ask('state/cup')).then(state => state.races[1].at.{sail})")) / 1000
+
+    def test_set_and_put_right(self) -> None:
+        """The clock is set without a connection and put right before there is one: a tap between has its moment by the time
+        that passed."""
+        ann = self.away()
+        ann.run(SET.format(HOUR))
+        before = time.time()
+        ann.tap("GBR7")
+        after = time.time()
+        ann.run(SET.format(0))
+        self.net.mend()
+        self.settle(ann)
+        self.assertTrue(before - 1 < self.moment_of(ann, "GBR7") < after + 1)
+
+    def test_put_right_and_loaded(self) -> None:
+        """So it is, and the page is loaded again before there is a connection: somebody says which of two moments holds, and
+        one of them is right."""
+        ann = self.away()
+        ann.run(SET.format(HOUR))
+        before = time.time()
+        ann.tap("GBR7")
+        after = time.time()
+        ann.run(SET.format(0))
+        ann.run(f"{OFFICE}.then(office => office.now())")
+        ann.reload()
+        self.net.mend()
+        ann.until(ASKED)
+        self.assertEqual(ann.text("dialog h2"), "When was GBR 7 tapped?")
+        ann.choose("before")
+        self.settle(ann)
+        self.assertTrue(before - 1 < self.moment_of(ann, "GBR7") < after + 1)
+
+    def test_asleep(self) -> None:
+        """A phone sleeps without a connection, before taps and after them: nobody is asked, and each has its moment."""
+        ann, tapped = self.away(), {}
+        for sail in ("GBR7", "NED12"):
+            ann.run(SLEEP)
+            tapped[sail] = time.time()
+            ann.tap(sail)
+        self.net.mend()
+        self.settle(ann)
+        for sail, at in tapped.items():
+            self.assertLess(abs(self.moment_of(ann, sail) - at), NEAR / 1000)
+
+    def test_set_and_asleep(self) -> None:
+        """The clock is set, a boat is tapped, and the phone sleeps: both clocks say the same of the tap, so nobody is asked."""
+        ann = self.away()
+        ann.run(SET.format(HOUR))
+        tapped = time.time()
+        ann.tap("GBR7")
+        ann.run(SLEEP)
+        self.net.mend()
+        self.settle(ann)
+        self.assertLess(abs(self.moment_of(ann, "GBR7") - tapped), NEAR / 1000)
+
+    def test_put_right_and_asleep(self) -> None:
+        """The clock is set and put right around a tap, and the phone sleeps before all that or after it: of the moments that
+        somebody chooses from, one is right."""
+        for right in ("before", "after"):
+            with self.subTest(right=right):
+                self.end()
+                self.setUp()
+                ann = self.away()
+                if right == "after":
+                    ann.run(SLEEP)
+                ann.run(SET.format(HOUR))
+                tapped = time.time()
+                ann.tap("GBR7")
+                ann.run(SET.format(0))
+                ann.run(f"{OFFICE}.then(office => office.now())")
+                if right == "before":
+                    ann.run(SLEEP)
+                self.net.mend()
+                ann.until(ASKED)
+                ann.choose(right)
+                self.settle(ann)
+                self.assertLess(abs(self.moment_of(ann, "GBR7") - tapped), NEAR / 1000)
+
+    def test_set_while_it_is_asked(self) -> None:
+        """The clock is set again, or put back, while somebody is asked when a boat was tapped: what the button says is sent."""
+        for ahead in (7000, 2 * HOUR):
+            with self.subTest(ahead=ahead):
+                self.end()
+                self.setUp()
+                line = self.line()
+                ann = self.wrong(2 * HOUR, line.own)
+                self.is_kept(ann)
+                line.cut()
+                ann.reload()
+                ann.tap("GBR7")
+                ann.run(SET.format(0))
+                ann.reload()
+                line.mend()
+                ann.until(ASKED)
+                shown = ann.text("dialog [data-value=now]")
+                ann.run(SET.format(ahead))
+                self.asked(ann)
+                ann.choose("now")
+                self.settle(ann)
+                sent = ann.run(f"import('/office/static/finish-state.js').then(page => page.clock('cup', {self.moment_of(ann, 'GBR7') * 1000}))")
+                self.assertEqual(shown.rpartition(" ")[2], sent)
+
+    def test_code(self) -> None:
+        """The moment of a code is put right, too, before it is sent: the office compares it with what others have sent since."""
+        ann = self.away()
+        ann.reload()
+        ann.run(SET.format(HOUR))
+        before = time.time()
+        ann.click("#code")
+        ann.tap("GBR7")
+        ann.choose("RET")
+        after = time.time()
+        self.net.mend()
+        self.settle(ann)
+        notes = [json.loads(line) for line in self.text("cup", "office", "web.taps").splitlines()]
+        at = next(note["at"] for note in notes if note.get("line") == "MARK 1 GBR7 RET") / 1000
+        self.assertTrue(before - 1 < at < after + 1, at - after)
 
     def test_dead_line(self) -> None:
         """The clock is put back by hours, and the line is dead without having said so: the page notices."""

@@ -208,6 +208,9 @@ class Desks(WebTrial):
         self.assertEqual(raw.tap("REDRESS 1 GBR7 2.0", agreed=agreed)[1]["outcome"], "taken")
         jury, before = self.device("jury", "Protest room"), self.journal()
         jury.until("document.querySelectorAll('.held tr').length === 1 && document.querySelectorAll('.kept li').length === 1")
+        jury.run("""window.heard = [];
+            new MutationObserver(() => heard.push(document.querySelector('#said').textContent))
+              .observe(document.querySelector('#said'), {childList: true}); 0""")
         jury.click(".held tr button")
         jury.until("!!document.querySelector('#send')")
         self.assertIn("CLEAR 1 GBR7; SCORER MARK 1 GBR7 DNF", jury.text("#preview"))
@@ -217,6 +220,11 @@ class Desks(WebTrial):
         jury.choose("yes")
         jury.until("document.querySelector('.held').textContent === 'Nothing yet.' && document.querySelectorAll('.kept li').length === 1")
         self.assertEqual(self.journal()[len(before):], ["JURY CLEAR 1 GBR7", "SCORER MARK 1 GBR7 DNF"])
+        # It is said what she holds after the last line, and not after the first.
+        jury.until("window.heard.length > 0")
+        said = str(jury.run("window.heard[0]")).split("\n")
+        self.assertIn("She holds DNF in race 1.", said[0])
+        self.assertRegex(said[1], r"^[A-Z]{3} \d+: ")
         self.assertEqual(self.text("cup", "decisions.txt"), "race 1 GBR7 NSC\n")
         self.need_no_faults()
 
@@ -285,10 +293,16 @@ class Desks(WebTrial):
         board.until("document.body.innerText.includes('GBR 101')")
 
     def test_an_office_is_closed(self) -> None:
-        """Closed for the day, which keeps a copy of the journal, and opened again from the page."""
-        scorer = self.device("scorer", "Bea’s laptop")
+        """Closed for the day, which keeps a copy of the journal, and opened again from the page. Places that are kept are
+        named before."""
+        finish, scorer = web_devices.Device(self.port, "finish").come(self.links["finish"], "Ann"), self.device("scorer", "Bea’s laptop")
+        for line in ("FINISH 1 GBR101", "? 1", "FINISH 2 GBR7", "? 2", "? 2"):
+            self.assertEqual(finish.tap(line)[0], 200, line)
+        scorer.until("!!document.querySelector('.races [data-key=\"3\"]')")
         scorer.click("#tab-office")
         scorer.press("Close the office for today")
+        scorer.until("!!document.querySelector('dialog[open]')")
+        self.assertEqual(scorer.texts("dialog[open] .wrong"), ["Race 1: ?1: a finisher without a sail", "Race 2: ?1 and ?2: finishers without a sail"])
         scorer.choose("yes")
         scorer.press("Open the office")
         scorer.until("[...document.querySelectorAll('.chip')].some(one => one.textContent === 'open')")

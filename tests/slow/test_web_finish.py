@@ -15,6 +15,8 @@ from web_office import BOATS, FOLKBOATS, WebTrial, entries_of, finishes
 ROWS = "#list li .sail"
 # What is by sail, and may be empty
 ANY = {"at", "by", "codes", "penalties", "redress", "times", "last", "asked", "decisions", "unfinished"}
+# What the finish page fetches once the boats are there
+LATER = {"finish-start.js", "finish-rows.js", "finish-answers.js", "sheet-why.js", "questions.js", "remark-words.js", "rules-words.js", "moves.js"}
 UNSENT = "document.querySelectorAll('#list li.unsent').length === {}"
 
 
@@ -266,11 +268,27 @@ class Finish(WebTrial):
             phone.until("document.querySelectorAll('#list li').length === 3")
             self.assertEqual(phone.texts(ROWS), ["GBR 101", "GBR 7", "?1"])
 
+    def test_answered_as_it_is_asked(self) -> None:
+        """A question that is answered while the page is about to ask it isn't asked again: her tap is gone."""
+        line, ann, ben = self.parted()
+        ann.tap("GBR7")
+        ben.click("#unread")
+        self.settle(ben)
+        line.mend()
+        ann.until("!!document.querySelector('dialog[open]')")
+        ann.run("import('/office/static/finish-state.js').then(({answer, askedItem}) => { const asking = answer(askedItem());"
+                " document.querySelector('dialog[open] [data-value=drop]').click(); return asking; })")
+        self.assertFalse(ann.run("!!document.querySelector('dialog[open]')"))
+        self.settle(ann)
+        self.need_no_faults()
+
     def test_a_first_visit(self) -> None:
         """A phone with an empty cache loads the finish page, in the language with the longest words, in 40 KB."""
         ann = self.phone(language="de")
         ann.ask("Network.setBypassServiceWorker", bypass=True)
         ann.ask("Network.setCacheDisabled", cacheDisabled=True)
+        # The page before may still fetch what comes later.
+        ann.open("about:blank")
         self.chromium.loaded.clear()
         ann.open(self.address("/office/finish/"))
         ann.until("document.querySelectorAll('#grid .boat').length === 24"
@@ -279,7 +297,10 @@ class Finish(WebTrial):
         while not any("/state/" in address for address in self.chromium.loaded):
             self.assertLess(time.monotonic(), end, self.chromium.loaded)
             ann.run("1")
-        loaded = sum(self.chromium.loaded.values())
+        names = [address.rpartition("/")[2] for address in self.chromium.loaded]
+        shown = next(at for at, address in enumerate(self.chromium.loaded) if "/state/" in address)
+        self.assertEqual([name for name in names[:shown] if name in LATER], [], "before the boats are there")
+        loaded = sum(size for name, size in zip(names, self.chromium.loaded.values()) if name not in LATER)
         self.assertLess(loaded, 40_000, self.chromium.loaded)
         self.assertGreater(loaded, 20_000)
         print(f"the finish page: {loaded} bytes")
@@ -365,6 +386,30 @@ class Two(WebTrial):
         ann.click("#list li[data-key='cup GBR33'] button.finisher")
         ann.until("document.querySelector('dialog[open] h2')?.textContent === 'GBR 33 Autumn Cup'", 30)
         self.assertEqual(self.journal("cup"), finishes("GBR33"))
+
+    def test_taps_of_a_class_that_has_gone(self) -> None:
+        """A phone has kept taps of a class that isn't served here, and something that is no tap: those are listed with their
+        words until somebody has read of them, and the phone records both classes."""
+        ann = self.phone_of_both()
+        kept: list[dict[str, object]] = [{"line": "FINISH 1 GBR7", "state": "refused", "words": "She has finished."},
+                                         {"line": "FINISH 1 GBR8", "state": "unsent"}, {"line": 7, "state": "unsent"}]
+        for number, more in enumerate(kept, 1):
+            more |= {"id": f"{number:032x}", "at": 1_795_870_800_000, "class": "gone", "agreed": []}
+            ann.run(f"localStorage.setItem('tap:{number:015}.{number:032x}', {json.dumps(json.dumps(more))})")
+        ann.run("localStorage.setItem('tap:000000000000009.x', 'no tap')")
+        ann.run("window.onbeforeunload = null")
+        ann.reload()
+        left = "#list li.refused"
+        ann.until(f"document.querySelectorAll('#grid .boat').length === 19 && document.querySelectorAll('{left}').length === 2")
+        self.assertEqual(ann.texts(f"{left} .sail"), ["GBR 7 gone", "GBR 8 gone"])
+        self.assertEqual(ann.texts(f"{left} .name"), ["She has finished.", ""])
+        ann.tap("NED80")
+        helpers.until("a finish", lambda: self.journal("fleet") == finishes("NED80"))
+        for count in (1, 0):
+            ann.click(f"{left} button")
+            ann.choose("ok")
+            ann.until(f"document.querySelectorAll('{left}').length === {count}")
+        self.need_no_faults()
 
     def test_one_page_for_both(self) -> None:
         ann = self.phone_of_both()
@@ -480,7 +525,8 @@ class Timed(WebTrial):
 
     def test_a_moment_comes_back(self) -> None:
         """The moment of ? is there again once the finish that says who she was is refused, as the scorer has given her one
-        meanwhile, or dropped; and the page may be loaded again. Whoever she was then has it."""
+        meanwhile, or dropped; and the page may be loaded again. Whoever she was then has it. Until then the phone holds it,
+        and who scores is asked."""
         line, unread = self.line(), "document.querySelectorAll('#list li.unread').length"
         ann, sue = self.started(line.own), self.device("scorer", "Sue")
         ann.click("#unread")
@@ -499,7 +545,13 @@ class Timed(WebTrial):
         ann.reload()
         ann.until(f"{unread} === 1")
         self.assertEqual(ann.texts("#list li.unread .end b"), [moment])
+        held = "fetch('/office/scorer/devices').then(said => said.json()).then(said => said.devices.map(one => one.unsent).sort().join())"
+        helpers.until("what the phone holds", lambda: sue.run(held) == "0,1")
         sue.click("#score")
+        sue.until("!!document.querySelector('dialog[open]')")
+        self.assertIn("Ann’s phone (1): taps that the office hasn’t got yet.", sue.text("dialog"))
+        sue.choose("yes")
+        sue.until("document.querySelector('dialog[open]')?.textContent.includes('DNC')")
         sue.choose("yes")
         sue.until("!!document.querySelector('#unscore')")
         for answer, left in (("drop", 1), ("yes", 0)):
@@ -507,6 +559,7 @@ class Timed(WebTrial):
             ann.choose(answer)
             ann.until(f"!document.querySelector('dialog[open]') && {unread} === {left}")
         helpers.until("her finish", lambda: f"NED12,00:00:00,{moment}," in self.text("cup", "times", "race-1.csv"))
+        helpers.until("nothing on the phone", lambda: sue.run(held) == "0,0")
         self.need_no_faults()
 
     def test_a_sail_that_was_not_read(self) -> None:

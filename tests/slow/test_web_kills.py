@@ -57,7 +57,8 @@ class Sent:
 
 
 class Trial(Served):
-    """One series, of which each trial begins with the same files."""
+    """One series, of which each trial begins with the same files: these `names`, the log and the register last."""
+    names: tuple[str, ...] = FILES
 
     def setUp(self) -> None:
         super().setUp()
@@ -94,7 +95,7 @@ class Trial(Served):
     def files(self) -> Held:
         """The files of the series."""
         found = {}
-        for name in FILES:
+        for name in self.names:
             with contextlib.suppress(FileNotFoundError), open(self.folder.file(name), "rb") as file:
                 found[name] = file.read()
         return found
@@ -104,7 +105,7 @@ class Trial(Served):
         now = self.files()
         if now.get("journal.txt") != before["journal.txt"]:
             self.close()
-        for name in FILES:
+        for name in self.names:
             path = self.folder.file(name)
             if now.get(name) == before.get(name):
                 continue
@@ -181,7 +182,7 @@ class Trial(Served):
         answers, steps = self.asked(some)
         self.assertEqual({status for status, _ in answers}, {200}, answers)
         after, outcomes = self.files(), outcomes_of(answers)
-        changed = [name for name in FILES[:-2] if before.get(name) != after.get(name)]
+        changed = [name for name in self.names[:-2] if before.get(name) != after.get(name)]
         changed += ["office.log"] if deeds(before) != deeds(after) else []
         self.assertEqual(changed, list(wanted))
         for victim in victims:

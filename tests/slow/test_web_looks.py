@@ -108,6 +108,10 @@ PALE = """(() => {
     `${part.tagName}.${part.className} "${part.textContent.slice(0, 30)}" ${colour} on ${behind(part)}`);
 })()"""
 
+# What the keyboard has to reach, from above to below: by its key, its identity, or its words
+TABBED = """[...document.querySelectorAll("a[href], button, input, select, summary, [tabindex='0']")]
+  .filter(part => !part.disabled && part.checkVisibility()).map(part => (part.dataset.key ?? part.id) || part.textContent)"""
+
 # How high a page's controls are that a wet finger has to hit
 LOW = """[...document.querySelectorAll("#grid button, #acts button, #keys button, #list button, #races button, #banner button")]
   .filter(part => part.getClientRects().length && part.getBoundingClientRect().height < 51.9).map(part => part.textContent)"""
@@ -211,6 +215,8 @@ class Looking(unittest.TestCase):
 
     def scorer(self, device: Device) -> Iterator[str]:
         """The scorer's page: a race, corrections, questions, links, the office, a new series."""
+        device.run("sessionStorage.setItem('last:cup', JSON.stringify({id: '0', line: 'BEFORE 40 GBR101 NED12'}))")
+        device.reload()
         device.until("document.querySelectorAll('.order tbody tr').length > 7")
         yield "races"
         device.click(f".order tr[data-sail={SAILS[0]}] th button")
@@ -473,6 +479,19 @@ class Looks(Looking):
         self.assertIn("Ann um 11:20", device.text("dialog[open]"))
         device.close()
 
+    def test_numbers_in_german(self) -> None:
+        """Points have a comma, and a date is one of the language; codes and sails are as they were."""
+        device = self.device("scorer", 1280, 900, "de")
+        device.until("document.querySelectorAll('.standing tbody tr').length > 7")
+        # Third and fourth, level (A7)
+        self.assertIn("3,5", device.text(".standing"))
+        self.assertIn("OCS", device.text(".standing"))
+        self.assertNotRegex(device.text(".standing"), r"[0-9]\.[0-9]")
+        device.click("#tab-results")
+        device.until("!!document.querySelector('#is-changed')")
+        self.assertIn("28. November 2026", device.text("main"))
+        device.close()
+
     def test_two_classes(self) -> None:
         """Two classes at one line at 320 pixels, in each language."""
         for language in LANGUAGES:
@@ -533,18 +552,23 @@ class Looks(Looking):
 
     def unnamed(self, device: Device) -> list[str]:
         """What has no name in Chromium's accessibility tree, or is for fingers alone."""
-        nodes: list[dict[str, Any]] = device.ask("Accessibility.getFullAXTree")["nodes"]
-        kept = [node for node in nodes if not node.get("ignored")]
-        roles = [node["role"]["value"] for node in kept]
-        found = [f"a {node['role']['value']} without a name" for node in kept
-                 if node["role"]["value"] in NEEDS_NAME and not node.get("name", {}).get("value", "").strip()]
-        found += [f"no {role}" for role in ("heading", "main") if role not in roles and "dialog" not in roles]
+        roles, found = heard_of(device)
         found += [f"no live {role}" for role in ("status", "alert") if role not in roles and "dialog" not in roles]
         return [*found, *device.run(UNREACHED)]
 
 
-class Keyboard(Looking):
-    """Without a mouse or a finger."""
+def heard_of(device: Device) -> tuple[list[str], list[str]]:
+    """The roles of what Chromium's accessibility tree has of a page, and what a screen reader can't name or find there."""
+    nodes: list[dict[str, Any]] = device.ask("Accessibility.getFullAXTree")["nodes"]
+    kept = [node for node in nodes if not node.get("ignored")]
+    roles = [node["role"]["value"] for node in kept]
+    found = [f"a {node['role']['value']} without a name" for node in kept
+             if node["role"]["value"] in NEEDS_NAME and not node.get("name", {}).get("value", "").strip()]
+    return roles, found + [f"no {role}" for role in ("heading", "main") if role not in roles and "dialog" not in roles]
+
+
+class ByKeyboard:
+    """Presses keys."""
 
     def press(self, device: Device, key: str, shift: bool = False) -> None:
         code = {"Tab": 9, "Enter": 13, "Escape": 27, "Backspace": 8}.get(key, ord(key[0].upper()))
@@ -569,6 +593,10 @@ class Keyboard(Looking):
             found.append(here)
         return found
 
+
+class Keyboard(ByKeyboard, Looking):
+    """Without a mouse or a finger."""
+
     def test_order(self) -> None:
         """Tab goes through the finish page from above to below, and shows where it is."""
         device = self.device("finish", 390, 844)
@@ -579,6 +607,16 @@ class Keyboard(Looking):
                              " (one.dataset.key ?? one.id) || one.textContent)")
         self.assertEqual(reached, buttons)
         device.close()
+
+    def test_order_at_desks(self) -> None:
+        """So it does through the scorer's and the jury's page: no control is left out, and none comes before one above it."""
+        for role in ("scorer", "jury"):
+            device = self.device(role, 1280, 900)
+            device.until("document.querySelectorAll('.standing tbody tr').length > 7")
+            reached = self.reached(device)
+            self.assertEqual([one for one in reached if "without" in one], [], role)
+            self.assertEqual(reached, device.run(TABBED), role)
+            device.close()
 
     def test_finish(self) -> None:
         """Digits, Enter and ? record finishes; Escape gives up; Backspace drops a digit."""

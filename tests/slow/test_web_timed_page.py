@@ -62,6 +62,18 @@ class TimedCorrections(WebTrial):
         self.assertEqual(self.journal()[3:], ["SCORER STRIKE 1 GBR7", "SCORER TIME 1 GBR7 3564", "SCORER TIME 1 FRA9 3360"])
         self.need_no_faults()
 
+    def test_fault(self) -> None:
+        """What keeps a sheet from being read is shown beside its race, and goes once it is put right."""
+        self.write(SHEET.replace("15:05:00", "15:5:7"), "cup", "times", "race-1.csv")
+        scorer = self.device("scorer", "Bea’s laptop")
+        scorer.click(".races [data-key='1']")
+        scorer.until("document.querySelector('#sheet-fault')?.textContent.startsWith('times/race-1.csv, row 3, column Finish: ')")
+        self.write(SHEET, "cup", "times", "race-1.csv")
+        scorer.type("#typed", "times 1")
+        scorer.press("Send")
+        scorer.until("document.querySelectorAll('.order tbody tr').length === 3 && !document.querySelector('#sheet-fault')")
+        self.need_no_faults()
+
     def test_another_rating(self) -> None:
         """A rating that is corrected after scoring: whoever says so has the race scored with it, 3,900 s x 0.800."""
         self.write(SHEET, "cup", "times", "race-1.csv")

@@ -67,6 +67,25 @@ class Let(WebTrial):
         self.assertNotIn("out", ann.run("window.states"))
         self.assertEqual(self.journal(), finishes("GBR101", "GBR7"))
 
+    def test_a_portal(self) -> None:
+        """A page of somebody else's answers in place of the office, that nobody is let in: the page asks once, and counts that
+        as no answer."""
+        ann = self.phone()
+        asked = ann.run("""import("/office/static/office.js").then(async office => {
+            const real = window.fetch;
+            let count = 0, stop = null;
+            const enough = new Promise(done => { stop = done; });
+            window.fetch = () => new Promise(done => setTimeout(() => {
+                if ((count += 1) > 20) stop({status: "without an end"});
+                done(new Response("<h1>Log in</h1>", {status: 403}));
+            }));
+            const first = await Promise.race([office.ask("me"), enough]), second = await Promise.race([office.ask("line/cup", {}), enough]);
+            const asked = count;
+            window.fetch = real;
+            return [asked, first.status, second.status, office.isOut];
+        })""")
+        self.assertEqual(asked, [2, 0, 0, False])
+
     def test_another_tab_comes(self) -> None:
         """The link is opened again in another tab: the first one still sends."""
         one = self.phone()

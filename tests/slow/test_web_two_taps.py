@@ -25,6 +25,11 @@ def ann(line: str, **more: Any) -> Sent:
     return tapped(1, "Ann", line, at=TWENTY, **more)
 
 
+def since(start: str, written: str) -> object:
+    """What is asked before a start takes the place of one that boats have sailed by."""
+    return {"kind": "start-since", "values": {"race": 1, "start": start, "written": written}}
+
+
 def bob(*lines: str) -> list[Sent]:
     return [tapped(number, "Bob", line, at=THIRTY) for number, line in enumerate(lines, 2)]
 
@@ -59,7 +64,9 @@ class TwoTaps(Prepared):
 
     def test_start(self) -> None:
         self.asked([tapped(9, "Ann", "START 1 14:00", at=TEN)])
-        self.each_kill(ann("START 1 14:10"), bob("START 1 14:20"))
+        over_10, over_0, later = since("14:10:00", "14:20:00"), since("14:00:00", "14:20:00"), "START 1 14:20"
+        self.each_kill(ann("START 1 14:10", agreed=[since("14:00:00", "14:10:00")]),
+                       [tapped(2, "Bob", later, at=THIRTY, agreed=[over_10, over_0])])
 
     def test_undo(self) -> None:
         struck = tapped(9, "Ann", "STRIKE 1 GBR7")

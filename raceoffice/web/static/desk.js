@@ -3,7 +3,7 @@
 // is about the class that was shown then, so it has that class by name to its end.
 import {byId, element, fill} from "./elements.js";
 import {languageField, loadTexts, text} from "./texts.js";
-import {comeIn, followNews, me, stateFollower} from "./office.js";
+import {areServed, comeIn, followNews, me, stateFollower} from "./office.js";
 import {sendLine} from "./sending.js";
 import {spaced} from "./sails.js";
 
@@ -15,7 +15,13 @@ let drawing = () => {}, link = "away";
 // What the office shows of a class: of the one on the page, if none is named
 export const state = (name = here) => states[name];
 export const boatOf = (sail, name = here) => state(name)?.boats.find(boat => boat[0] === sail);
-export const send = (name, line, more) => sendLine(name, line, state(name)?.entries ?? 0, more);
+export const redraw = () => drawing();
+
+export async function send(name, line, more) {
+  const done = await sendLine(name, line, state(name)?.entries ?? 0, more);
+  redraw();
+  return done;
+}
 
 // A boat by her sail and name
 export function called(sail, name = here) {
@@ -69,10 +75,13 @@ function linkWords() {
 const follow = stateFollower((name, version) => states[name]?.version !== version, (name, found) => { states[name] = found; },
   () => { drawLink(); drawing(); });
 
+// A class that is served: this one if it is
+const shownClass = name => (me?.classes.find(one => one.class === name) ?? me?.classes[0])?.class ?? "";
+
 async function takeNews(versions) {
-  if (Object.keys(versions).length !== me?.classes.length) {
+  if (!areServed(me?.classes, versions)) {
     await comeIn();
-    here ||= me?.classes[0]?.class ?? "";
+    here = shownClass(here);
   }
   follow(versions);
 }
@@ -87,8 +96,7 @@ export async function beginDesk(draw) {
     location.replace("/office/in");
     return;
   }
-  const kept = sessionStorage.getItem("class");
-  here = me?.classes.find(one => one.class === kept)?.class ?? me?.classes[0]?.class ?? "";
+  here = shownClass(sessionStorage.getItem("class"));
   draw();
   followNews(takeNews, told => { link = told; drawLink(); });
 }

@@ -10,6 +10,18 @@ export function byId(name) {
   return document.getElementById(name);
 }
 
+// Says what went wrong, while the rest goes on.
+export function tellFault(fault) {
+  setTimeout(() => { throw fault; });
+}
+
+// What `make` makes of each of several; one of which something goes wrong is left out.
+export function each(several, make) {
+  return several.flatMap((one, at) => {
+    try { return [make(one, at)]; } catch (fault) { tellFault(fault); return []; }
+  });
+}
+
 // An element with its attributes, and with what it does (onclick ..). A text in it is never taken for HTML,
 // whatever an entry list has in it.
 export function element(tag, properties = {}, ...inside) {

@@ -1,9 +1,8 @@
 'use strict';
 // A device comes by its link. The secret is behind the #, which no browser sends to a server by itself.
 import {byId, element, fill} from "./elements.js";
-import {languageField, loadTexts, text} from "./texts.js";
+import {languageField, loadTexts, text, troubleOf} from "./texts.js";
 import {ask} from "./office.js";
-import {troubleOf} from "./refusals.js";
 
 const ROLES = ["finish", "jury", "scorer"];
 const DEVICES = ["iPad", "iPhone", "Android", "Mac", "Windows"];

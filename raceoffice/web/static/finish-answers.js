@@ -1,22 +1,32 @@
 'use strict';
 // What the office asks about a tap of this device, and what somebody answers.
 import {element} from "./elements.js";
-import {byClock, language, text} from "./texts.js";
-import {momentNow} from "./office.js";
+import {byClock, language, refusalOf, text, timeOfDay} from "./texts.js";
+import {isOneClock} from "./office.js";
 import {choose} from "./dialogs.js";
 import {spaced} from "./sails.js";
 import {agreedOf, wordsOf} from "./questions.js";
 import {clock, named, page, queue} from "./finish-state.js";
 
 export async function ask(item) {
-  const done = item.clock ? await askWhen(item) : item.isWhere ? await askWhere(item) : await askWhether(item);
+  const {clock: asked} = item, isWhen = !item.question;
+  const done = isWhen ? await askWhen(item) : item.isWhere ? await askWhere(item) : await askWhether(item);
   if (done === "drop") queue.drop(item);
+  else if (isWhen && done) takeMoments(asked, done);
   else if (done === "after") queue.change(item, {state: "unsent", behind: null});
-  else if (item.clock && done) takeMoments(item.clock, done === "now");
   else if (done) queue.change(item, {state: "unsent", agreed: [...item.agreed, agreedOf(item.question)]});
   if (done === "clock") goByClock(item.class);
   queue.send();
   page.redraw();
+}
+
+// A tap that is refused, or that waits: what is said of it
+export async function showLeft(item) {
+  const words = [refusalOf(item.answer, item.words) ?? "", element("p", {class: "mono"}, item.line)], isRefused = item.state === "refused";
+  const done = await choose(text(isRefused ? "finish.officeRefused" : "common.notSent"), words,
+    [{value: "", label: text("finish.keepItHere")}, {value: "ok", label: text(isRefused ? "finish.understood" : "finish.dropTap"), look: "main"}]);
+  if (done === "ok") queue.drop(item);
+  queue.send();
 }
 
 function askWhether(item) {
@@ -28,16 +38,20 @@ function askWhether(item) {
 // The clock of this device was set while the office wasn't reached, before the tap or after it.
 function askWhen(item) {
   const [mark, , sail] = item.line.split(" ");
-  const day = at => byClock(at, page.states[item.class].zone).toLocaleDateString(language, {dateStyle: "long", timeZone: "UTC"});
-  const label = at => `${day(at)}, ${clock(item.class, at)}`;
+  // The zone of a class that isn't served here any more isn't known.
+  const zone = page.states[item.class]?.zone ?? [[0, 0]];
+  const label = at => `${byClock(at, zone).toLocaleDateString(language, {dateStyle: "long", timeZone: "UTC"})}, ${timeOfDay(at, zone)}`;
+  const moments = {[label(item.at)]: "then"};
+  for (const [value, at] of Object.entries(item.clock.others)) if (at) moments[label(at)] ??= value;
   return choose(text("finish.whenTapped", {sail: named(item.class, sail ?? mark)}), text("finish.clockWasSet"),
-    [{value: "then", label: label(item.at)}, {value: "now", label: label(momentNow(item))}, {value: "drop", label: text("finish.dropTap"), look: "bad"}], "stack");
+    [...Object.entries(moments).map(([label, value]) => ({value, label})), {value: "drop", label: text("finish.dropTap"), look: "bad"}], "stack");
 }
 
-// The moments of all taps since the clock was last set before them, by the clock as it was then, or as it is now
-function takeMoments({span}, isNow) {
-  for (const item of queue.items.filter(one => one.clock?.span === span && ["asked", "unsent"].includes(one.state))) {
-    queue.change(item, {state: "unsent", at: isNow ? momentNow(item) : item.at, clock: undefined});
+// The moments of all taps that go by this clock: as they were shown then, or others that they may be
+function takeMoments(asked, chosen) {
+  for (const item of queue.items.filter(one => one.clock?.others && ["asked", "unsent"].includes(one.state))) {
+    const at = Math.round(item.clock.others[chosen] || item.at);
+    if (item.clock === asked || isOneClock(asked, item.clock)) queue.change(item, {state: "unsent", at, clock: undefined});
   }
 }
 

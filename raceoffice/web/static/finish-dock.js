@@ -4,27 +4,25 @@ import {byId, element, fill} from "./elements.js";
 import {text} from "./texts.js";
 import {isOpen} from "./dialogs.js";
 import {short} from "./sails.js";
-import {lastBoat} from "./race-view.js";
-import {isTimed, lastTap, page, raceNow, sailing, setDigits, setMode} from "./finish-state.js";
+import {finishers, lastBoat} from "./race-view.js";
+import {isTimed, lastTap, page, raceNow, sailing, setDigits, setMode, withPart} from "./finish-state.js";
 import {buzz, tapUnread, undo} from "./finish-taps.js";
 import {startGridAgain} from "./finish-grid.js";
 
 export function drawDock() {
-  const tap = lastTap(), level = lastFinisher(), timed = sailing().find(one => isTimed(one.class));
+  const tap = lastTap(), level = lastFinisher(), timed = sailing().filter(one => isTimed(one.class));
   fill(byId("acts"),
     element("button", {type: "button", id: "undo", class: "undo", disabled: !tap, onclick: undo}, tap ? undoWords(tap.line) : text("finish.undo")),
-    timed ? startButton(timed.class) : modeButton("level", !level, () => ({kind: "level", class: level.class, sail: level.sail})),
+    timed.length ? startButton(timed) : modeButton("level", !level?.sail, () => ({kind: "level", class: level.class, sail: level.sail})),
     modeButton("code", false, () => ({kind: "code"})),
     modeButton("round", false, () => ({kind: "round"})));
 }
 
-// The start of a race by corrected time, and when it was
-function startButton(name) {
-  const {start} = raceNow(name);
-  // It is there before somebody presses it without a connection.
-  import("./finish-start.js").catch(() => {});
-  return element("button", {type: "button", id: "start", class: start ? "set" : "main", "aria-label": `${text("finish.start")} ${start}`, onclick: async () => (await import("./finish-start.js")).askStart(name)},
-    start || text("finish.start"));
+// The starts of the races by corrected time, once each has one
+function startButton(timed) {
+  const starts = timed.map(one => raceNow(one.class).start), isWhole = starts.every(Boolean), words = starts.join(" ").trim();
+  return element("button", {type: "button", id: "start", class: isWhole ? "set" : "main", "aria-label": `${text("finish.start")} ${words}`,
+    onclick: () => withPart("start", ({askStart}) => askStart(timed))}, isWhole ? words : text("finish.start"));
 }
 
 // A button that says what the next tap means; pressed again, a tap is a finish again.
@@ -45,13 +43,14 @@ function undoWords(line) {
   return text("finish.undoWhat", {what: ["MARK", "PENALTY"].includes(command) ? `${what} ${code}` : what});
 }
 
-// The last finisher of all classes. One without a moment finished no earlier than those ahead of her.
+// The last finisher of all classes; without a sail if that wasn't read: nobody can be level with her. One without a moment
+// finished no earlier than those ahead of her.
 function lastFinisher() {
   const found = sailing().filter(one => !isTimed(one.class)).map(one => {
-    const race = raceNow(one.class);
-    return {class: one.class, sail: lastBoat(race), at: Math.max(...race.order.flat().map(sail => race.at[sail] ?? 0))};
+    const race = raceNow(one.class), rows = finishers(race);
+    return {class: one.class, sail: rows.at(-1)?.sail && lastBoat(race), at: Math.max(...rows.map(row => row.at ?? 0))};
   });
-  return found.filter(one => one.sail).sort((one, other) => other.at - one.at)[0];
+  return found.filter(one => one.at >= 0).sort((one, other) => other.at - one.at)[0];
 }
 
 function pressDigit(digit) {

@@ -52,7 +52,8 @@ function fit(boat) {
 
 function boatsToShow(all) {
   const isForAll = page.mode.kind === "code" || page.mode.kind === "round";
-  const open = isForAll ? all : all.filter(boat => !boat.isDone && !boat.code);
+  const toCome = boat => !boat.isDone && !boat.code && (page.mode.class ?? boat.class) === boat.class;
+  const open = isForAll ? all : all.filter(toCome);
   if (page.digits) return open.filter(boat => fit(boat) >= 0).sort((one, other) => fit(one) - fit(other));
   if (page.mode.kind !== "finish") return open;
   return boatsInPlace(all, open);

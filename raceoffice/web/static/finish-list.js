@@ -1,14 +1,12 @@
 'use strict';
 // The finishers so far, the newest at the end: each with her place, her time, and how far her tap has come.
-import {byId, element, fill} from "./elements.js";
-import {ordinal, text} from "./texts.js";
+import {byId, each, element, fill} from "./elements.js";
+import {ordinal, refusalOf, text} from "./texts.js";
 import {me} from "./office.js";
-import {choose} from "./dialogs.js";
 import {kindOf, spaced} from "./sails.js";
-import {refusalOf} from "./refusals.js";
 import {duration, finishers, heldBy} from "./race-view.js";
-import {answer, askedItem, boatNamed, clock, isHere, named, page, queue, raceNow, shownLine} from "./finish-state.js";
-import {askFinisher, askStrike, askUnread, buzz} from "./finish-taps.js";
+import {answer, askedItem, boatNamed, clock, isHere, isWaiting, named, page, queue, raceNow, shownLine, withPart} from "./finish-state.js";
+import {buzz} from "./finish-taps.js";
 
 // Milliseconds of a long press, and pixels of a swipe to the left
 const LONG = 700, SWIPE = 70, STILL = 12;
@@ -17,9 +15,9 @@ let rowsBefore = 0;
 
 export function drawList() {
   const list = byId("list"), wasAtEnd = list.scrollTop + list.clientHeight > list.scrollHeight - NEAR_END;
-  const lists = page.classes.map((one, place) => page.races[one.class] ? rowsOf(one, place) : []);
-  const rows = merged(lists), refused = queue.items.filter(item => item.state === "refused");
-  fill(list, rows.map(row => row.node), refused.map(refusedRow));
+  const lists = each(page.classes, (one, place) => page.races[one.class] ? rowsOf(one, place) : []);
+  const rows = merged(lists);
+  fill(list, rows.map(row => row.node), each(queue.items.filter(isLeft), leftRow));
   if (wasAtEnd || rows.length !== rowsBefore) list.scrollTop = list.scrollHeight;
   rowsBefore = rows.length;
 }
@@ -30,7 +28,7 @@ function rowsOf(one, place) {
   let latest = 0;
   return finishers(race).map(row => {
     latest = Math.max(latest, row.at ?? 0);
-    return {node: row.gap ? unreadRow(one.class, row) : boatRow(one, place, race, row), at: latest};
+    return {node: row.gap ? unreadRow(one, place, row) : boatRow(one, place, race, row), at: latest};
   });
 }
 
@@ -47,11 +45,11 @@ function merged(lists) {
 function boatRow(one, place, race, row) {
   const {sail} = row, boat = boatNamed(one.class, sail), state = race.unsent[sail];
   const isLate = state === "unsent" || state === "asked", item = askedItem(one.class, sail);
-  const names = [page.classes.length > 1 ? one.group : "", boat.name || boat.helm].filter(Boolean).join(" · ");
+  const names = withGroup(one, boat.name || boat.helm);
   const codes = heldBy(race, sail).map(code => [" ", element("span", {class: `code ${kindOf(code)}`}, code)]);
-  const open = () => item ? answer(item) : askFinisher(one.class, sail);
-  return element("li", {class: `class${place} ${isLate ? "unsent" : ""} ${page.mode.sail === sail ? "target" : ""}`,
-    "data-key": `${one.class} ${sail}`, "data-sail": sail, ...gestures(() => askStrike(one.class, sail))},
+  const open = () => item ? answer(item) : withPart("rows", ({askFinisher}) => askFinisher(one.class, sail));
+  return element("li", {class: `class${place} ${isLate ? "unsent" : ""} ${page.mode.class === one.class && page.mode.sail === sail ? "target" : ""}`,
+    "data-key": `${one.class} ${sail}`, "data-sail": sail, ...gestures(() => withPart("rows", ({askStrike}) => askStrike(one.class, sail)))},
     element("button", {type: "button", class: "finisher", onclick: () => takeClick(open)},
       element("span", {class: "place", "aria-label": row.place ? ordinal(row.place) : text("finish.noPlace")},
         row.place || "–", row.isTied && row.place ? element("sup", {}, "=") : null),
@@ -75,30 +73,31 @@ function progress(state, by, isWaiting) {
   return element("i", {}, element("span", {role: "img", "aria-label": text("finish.recorded")}, "✓"));
 }
 
-function unreadRow(name, row) {
-  const {gap} = row, isUnsent = gap.state === "unsent", isOnWay = gap.state === "way";
+// A boat's class, if there are several, and more about her
+const withGroup = (one, words) => [page.classes.length > 1 ? one.group : "", words].filter(Boolean).join(" · ");
+
+function unreadRow(one, place, row) {
+  const {gap} = row, name = one.class, isUnsent = gap.state === "unsent", isOnWay = gap.state === "way";
   const words = isUnsent ? text("finish.unsent") : isOnWay ? "…" : text("finish.kept");
-  return element("li", {class: `unread ${isUnsent ? "unsent" : ""}`, "data-key": `${name} ${gap.mark} ${gap.at ?? ""}`},
-    element("button", {type: "button", class: "finisher", onclick: () => gap.mark !== "?" && askUnread(name, gap.mark)},
+  return element("li", {class: `class${place} unread ${isUnsent ? "unsent" : ""}`, "data-key": `${name} ${gap.mark} ${gap.at ?? ""}`},
+    element("button", {type: "button", class: "finisher", onclick: () => gap.mark !== "?" && withPart("rows", ({askUnread}) => askUnread(name, gap.mark))},
       element("span", {class: "place", "aria-label": ordinal(row.place)}, row.place), element("span", {class: "sail"}, gap.mark),
-      element("span", {class: "name"}, text("finish.notRead")),
+      element("span", {class: "name"}, withGroup(one, text("finish.notRead"))),
       element("span", {class: "end"}, element("b", {}, clock(name, gap.at)), element("i", {}, words))));
 }
 
-function refusedRow(item) {
-  const [, number, sail] = shownLine(item).split(" ");
-  return element("li", {class: "refused", "data-key": item.id},
-    element("button", {type: "button", class: "finisher", onclick: () => showRefused(item)},
-      element("span", {class: "place", "aria-hidden": "true"}, "✕"), element("span", {class: "sail"}, sail ? named(item.class, sail) : item.line),
-      element("span", {class: "name"}, refusalOf(item.answer, item.words)),
-      element("span", {class: "end"}, element("b", {}, clock(item.class, item.at)), element("i", {}, !number || isHere(item) ? text("finish.refused") : `${text("common.race")} ${number}`))));
-}
+const isServed = item => page.classes.some(one => one.class === item.class);
+// Whether somebody has to read of a tap: it is refused, its class isn't served here, or the office says why it waits
+const isLeft = item => item.state === "refused" || item.state !== "done" && !isServed(item) || isWaiting(item) && item.words;
 
-async function showRefused(item) {
-  const words = [refusalOf(item.answer, item.words) ?? "", element("p", {class: "mono"}, item.line)];
-  const done = await choose(text("finish.officeRefused"), words,
-    [{value: "", label: text("finish.keepItHere")}, {value: "ok", label: text("finish.understood"), look: "main"}]);
-  if (done === "ok") queue.drop(item);
+function leftRow(item) {
+  const [, number, sail] = shownLine(item).split(" ");
+  const isRefused = item.state === "refused", end = text(isRefused ? "finish.refused" : "finish.unsent");
+  return element("li", {class: "refused", "data-key": item.id},
+    element("button", {type: "button", class: "finisher", onclick: () => withPart("answers", ({showLeft}) => showLeft(item))},
+      element("span", {class: "place", "aria-hidden": "true"}, isRefused ? "✕" : "!"), element("span", {class: "sail"}, sail ? named(item.class, sail) : item.line),
+      element("span", {class: "name"}, isRefused ? refusalOf(item.answer, item.words) : isServed(item) ? item.words : ""),
+      element("span", {class: "end"}, element("b", {}, clock(item.class, item.at)), element("i", {}, !number || isHere(item) ? end : `${text("common.race")} ${number}`))));
 }
 
 // The finger that is down on a row: it moves to the left, rests, or just taps. There is one at a time.

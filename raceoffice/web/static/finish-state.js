@@ -2,7 +2,7 @@
 // What the finish page knows: its classes, which race of each it records, and what somebody is about to tap.
 import {followClock, moment, newId, now, settle} from "./office.js";
 import {text, timeOfDay} from "./texts.js";
-import {isOpen} from "./dialogs.js";
+import {isOpen, say} from "./dialogs.js";
 import {spaced} from "./sails.js";
 import {atTheLine, isIn, lineThatUndoes, withTaps} from "./race-view.js";
 import {Queue} from "./queue.js";
@@ -32,15 +32,13 @@ export const page = {
 
 export const queue = new Queue(item => {
   forgetIfShown(item);
-  // It is there before somebody answers without a connection.
-  if (item.state === "asked") import("./finish-answers.js").catch(() => {});
   // What is refused, or dropped, says of no moment whose it was.
   if (queue.find(item.id) ? item.state === "refused" : item.state !== "gone") undoMoment(item);
   page.redraw();
 });
 
 followClock(() => {
-  for (const item of queue.items) if (settle(item)) queue.change(item, {});
+  for (const item of queue.items.filter(settle)) queue.change(item, {});
   page.moments.filter(settle).forEach(keepMoment);
   for (const one of page.moments) if (!one.clock && now() - one.at > DAY) forgetMoment(one);
 });
@@ -80,15 +78,18 @@ export function raceNow(name) {
   return found;
 }
 
-// By corrected time this device keeps the moment of a sail that wasn't read. `by` is the tap that says who she was.
-const momentsOf = name => page.moments.filter(one => one.class === name && one.race === page.races[name]);
+// By corrected time this device keeps the moment of a sail that wasn't read. `by` is the tap that says who she was. Those
+// of another series that had this name aren't shown.
+const momentsOf = name => page.moments.filter(one => one.class === name && one.race === page.races[name]
+  && (one.series ?? seriesOf(name)) === seriesOf(name));
+const seriesOf = name => page.states[name]?.series;
 
 // Each has a key of its own: another tab keeps others. An older page had one for all.
 function keptMoments() {
   kept("moments", []).forEach(one => keep(MOMENT + one.id, one));
   localStorage.removeItem("moments");
   const keys = Object.keys(localStorage).filter(key => key.startsWith(MOMENT));
-  return keys.map(key => kept(key)).filter(Boolean).sort((one, other) => one.at - other.at);
+  return keys.map(key => kept(key)).filter(one => one?.mark).sort((one, other) => one.at - other.at);
 }
 
 function keepMoment(one) {
@@ -104,13 +105,14 @@ function forgetMoment({id}) {
 addEventListener("storage", ({key, newValue}) => {
   if (!key?.startsWith(MOMENT)) return;
   page.moments = page.moments.filter(one => MOMENT + one.id !== key);
-  if (newValue) page.moments.push(JSON.parse(newValue));
+  const one = newValue && kept(key);
+  if (one?.mark) page.moments.push(one);
   page.redraw();
 });
 
 export function addMoment(name) {
   const last = Math.max(0, ...momentsOf(name).map(({mark}) => Number(mark.slice(1))));
-  const one = {id: newId(), class: name, race: page.races[name], mark: `?${last + 1}`, ...moment()};
+  const one = {id: newId(), class: name, series: seriesOf(name), race: page.races[name], mark: `?${last + 1}`, ...moment()};
   noteUndoable({id: one.id, class: name, line: `? ${one.race}`});
   page.moments.push(one);
   keepMoment(one);
@@ -143,8 +145,11 @@ export const clock = (name, at) => timeOfDay(at, page.states[name]?.zone);
 // The classes of which a race is being recorded
 export const sailing = () => page.classes.filter(one => page.races[one.class]);
 
-// A sail, with her class if there are several: two may have one sail
-export const named = (name, sail) => page.classes.length > 1 ? `${spaced(sail)} ${page.classes.find(one => one.class === name).group}` : spaced(sail);
+// A sail, with her class if there are several, since two may have one sail, or if it isn't served here any more
+export function named(name, sail) {
+  const found = page.classes.find(one => one.class === name);
+  return found && page.classes.length === 1 ? spaced(sail) : `${spaced(sail)} ${found?.group ?? name}`;
+}
 
 // Whether a line is about the race of its class that is shown
 export const isHere = item => Number(shownLine(item).split(" ")[1]) === page.races[item.class];
@@ -166,7 +171,7 @@ export function toComeCount(name) {
 // Adds a tap: `line` has # in place of the race's number.
 export function addTap(name, line, more = {}) {
   const race = raceNow(name), number = page.races[name];
-  const item = queue.add({class: name, line: line.replace("#", number), seen: page.states[name]?.entries ?? 0, series: page.states[name]?.series, ...more});
+  const item = queue.add({class: name, line: line.replace("#", number), seen: page.states[name]?.entries ?? 0, series: seriesOf(name), ...more});
   if (!more.undoes && !line.startsWith("START")) {
     noteUndoable({id: item.id, class: name, line: item.line, back: lineThatUndoes(item.line, race)});
   }
@@ -194,14 +199,22 @@ export function askedItem(name, sail) {
   return queue.items.find(item => item.state === "asked" && (!name || item.class === name && isHere(item) && item.line.split(" ")[2] === sail));
 }
 
-// Asks somebody what the office asks about an item, if no other window is open.
-export async function answer(item) {
-  const {ask} = await import("./finish-answers.js");
-  if (item.state === "asked" && !isOpen()) ask(item);
+// Asks somebody what the office asks about an item, unless that was answered meanwhile.
+export const answer = item => withPart("answers", ({ask}) => { if (item.state === "asked" && queue.items.includes(item)) ask(item); });
+
+// What a first visit doesn't need. It is fetched once the page is live, and is there at sea.
+const PARTS = {start: () => import("./finish-start.js"), answers: () => import("./finish-answers.js"), rows: () => import("./finish-rows.js")};
+
+export const fetchParts = () => Object.values(PARTS).forEach(fetched => fetched().catch(() => {}));
+
+// Gives a part to `use`, which opens a window, if no other is open by then; or says that it isn't there.
+export async function withPart(name, use) {
+  const part = await PARTS[name]().catch(() => say(text("common.notReached"), true));
+  if (part && !isOpen()) use(part);
 }
 
 // What is wrong, in a word or two for the sign at the top
 export function trouble() {
   if (queue.isFull) return text("finish.deviceFull");
-  return Object.values(page.states).some(state => state.trouble) ? text("common.officeAway") : "";
+  return page.classes.some(one => page.states[one.class]?.trouble) ? text("common.officeAway") : "";
 }

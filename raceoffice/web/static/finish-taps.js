@@ -3,7 +3,7 @@
 import {element} from "./elements.js";
 import {text} from "./texts.js";
 import {choose, dialogOf, say} from "./dialogs.js";
-import {CODES, PENALTIES, spaced} from "./sails.js";
+import {CODES, PENALTIES} from "./sails.js";
 import {heldBy, isIn, lastBoat} from "./race-view.js";
 import {addMoment, addTap, endMoment, isTimed, keep, lastTap, named, page, queue, raceNow, sailing, setMode, undoMoment} from "./finish-state.js";
 
@@ -31,18 +31,20 @@ export function tapBoat(name, sail) {
   if (isBounce(`${name} ${sail}`)) return;
   if (page.mode.kind === "code") askCode(name, sail);
   else if (page.mode.kind === "round") flipRounded(name, sail);
-  else if (isIn(raceNow(name), sail)) refuseSecond(sail);
+  else if (isIn(raceNow(name), sail)) refuseSecond(name, sail);
   else finish(name, sail);
 }
 
-function refuseSecond(sail) {
+function refuseSecond(name, sail) {
   buzz([20, 60, 20]);
-  say(text("finish.hasFinished", {sail: spaced(sail)}));
+  say(text("finish.hasFinished", {sail: named(name, sail)}));
 }
 
 function finish(name, sail) {
+  const {mode} = page, race = raceNow(name);
+  // A mode is about one class, whose boats alone are shown.
+  if ((mode.class ?? name) !== name) return;
   buzz(35);
-  const mode = page.mode.class === name ? page.mode : {kind: "finish"}, race = raceNow(name);
   page.mode = {kind: "finish"};
   page.digits = "";
   if (mode.kind === "level") addTap(name, `TIE # ${sail} ${mode.sail}`);
@@ -118,43 +120,4 @@ export async function askCode(name, sail) {
 function codeButton(code, words, label = code) {
   return element("button", {type: "button", "data-value": code, class: code === "CLEAR" ? "bad" : "",
     onclick: event => dialogOf(event.target).end(code)}, label, element("small", {}, words));
-}
-
-// What can be done about a finisher of the list
-export async function askFinisher(name, sail) {
-  const places = [{value: "before", label: text("finish.insertAhead")}, {value: "level", label: text("finish.insertLevel")}];
-  const done = await choose(named(name, sail), whyWaiting(name, sail), [...(isTimed(name) ? [] : places), {value: "code", label: text("finish.codeOrPenalty")}, {value: "strike", label: text("finish.strikeHer"), look: "bad"},
-    {value: "", label: text("common.cancel")}], "stack");
-  if (done === "strike") strike(name, sail);
-  else if (done === "code") askCode(name, sail);
-  else if (done) setMode({kind: done, class: name, sail});
-}
-
-// Why her time is in the sheet alone, once that has come
-function whyWaiting(name, sail) {
-  const {waiting, sheet} = raceNow(name), part = element("p", {});
-  if (waiting?.includes(sail)) import("./sheet-why.js").then(({showWhy}) => showWhy(part, sheet, sail)).catch(() => {});
-  return part;
-}
-
-function strike(name, sail) {
-  buzz(60);
-  addTap(name, `STRIKE # ${sail}`);
-}
-
-// After a swipe or a long press
-export async function askStrike(name, sail) {
-  const done = await choose(text("finish.strikeQuestion", {sail: named(name, sail)}), text("finish.strikeMeans"),
-    [{value: "", label: text("common.no")}, {value: "yes", label: text("finish.strike"), look: "bad"}]);
-  if (done === "yes") strike(name, sail);
-}
-
-// What can be done about a place that is kept
-export async function askUnread(name, mark) {
-  const done = await choose(text("finish.whoWas", {mark}), text(isTimed(name) ? "finish.timeIsKept" : "finish.placeIsKept"), [
-    {value: "known", label: text("finish.tapHerNext"), look: "main"}, {value: "drop", label: text("finish.nobody"), look: "bad"},
-    {value: "", label: text("finish.notYet")}], "stack");
-  if (done === "known") setMode({kind: "known", class: name, mark});
-  if (done === "drop" && isTimed(name)) endMoment(name, mark, "");
-  else if (done === "drop") addTap(name, `${mark} # NONE`);
 }

@@ -4,8 +4,7 @@ import {byId, element, fill} from "./elements.js";
 import {languageField, text} from "./texts.js";
 import {isOut} from "./office.js";
 import {choose, dialogOf} from "./dialogs.js";
-import {spaced} from "./sails.js";
-import {keep, page, queue, raceNow, setMode, stateOf, toComeCount, trouble} from "./finish-state.js";
+import {keep, named, page, queue, raceNow, setMode, stateOf, toComeCount, trouble} from "./finish-state.js";
 import {startGridAgain} from "./finish-grid.js";
 
 const RACES = 40;
@@ -41,10 +40,10 @@ function linkWords(unsent, isLive) {
 }
 
 function drawBanner() {
-  const {kind, sail, mark} = page.mode;
+  const {kind, class: name, sail, mark = sail} = page.mode, whom = () => named(name, mark);
   const words = {code: () => text("finish.tapForCode"), round: () => text("finish.tapAsTheyRound"),
-    level: () => text("finish.tapLevelWith", {sail: spaced(sail)}), before: () => text("finish.tapAheadOf", {sail: spaced(sail)}),
-    known: () => text("finish.tapWhoWas", {mark})}[kind];
+    level: () => text("finish.tapLevelWith", {sail: whom()}), before: () => text("finish.tapAheadOf", {sail: whom()}),
+    known: () => text("finish.tapWhoWas", {mark: whom()})}[kind];
   byId("banner").hidden = kind === "finish";
   byId("banner").classList.toggle("code", kind === "code");
   fill(byId("banner"), words ? [element("span", {}, words()),

@@ -1,10 +1,10 @@
 'use strict';
 // The finish page: a tap is a finisher. What it shows is the office's race with the taps of this device that are
 // still on their way.
-import {byId, fill} from "./elements.js";
+import {byId, fill, tellFault} from "./elements.js";
 import {loadTexts, text} from "./texts.js";
-import {comeIn, countUnsentBy, followNews, me, now, stateFollower} from "./office.js";
-import {LATE, answer, askedItem, clock, forgetIfShown, isWaiting, keep, kept, page, queue} from "./finish-state.js";
+import {areServed, comeIn, countUnsentBy, followNews, me, now, stateFollower} from "./office.js";
+import {LATE, answer, askedItem, clock, fetchParts, forgetIfShown, isWaiting, keep, kept, page, queue} from "./finish-state.js";
 import {lastTapAt} from "./finish-taps.js";
 import {drawGrid} from "./finish-grid.js";
 import {drawList} from "./finish-list.js";
@@ -15,11 +15,11 @@ import {drawDock, drawKeys, listenToKeys} from "./finish-dock.js";
 const CALM = 6000;
 const CLOCK = 500, QUESTIONS = 400;
 
+// Each part is drawn, whatever goes wrong in another.
 function draw() {
-  drawTop();
-  drawList();
-  drawGrid();
-  drawDock();
+  for (const part of [drawTop, drawList, drawGrid, drawDock]) {
+    try { part(); } catch (fault) { tellFault(fault); }
+  }
 }
 
 // The first race that doesn't count yet
@@ -30,13 +30,23 @@ function usualRace(state) {
 }
 
 function takeState(name, state) {
+  const held = page.states[name];
+  // Another series under this name has races of its own.
+  if (held?.series && held.series !== state.series) forgetRaces(name);
   page.states[name] = state;
   keep(`state:${name}`, {...state, isOld: true});
   if (page.races[name] === undefined && page.classes.length === 1) {
     page.races[name] = usualRace(state);
     keep("races", page.races);
   }
-  queue.of(name).forEach(forgetIfShown);
+  queue.items.forEach(forgetIfShown);
+}
+
+function forgetRaces(name) {
+  delete page.races[name];
+  delete page.rounded[name];
+  page.undoable = page.undoable.filter(tap => tap.class !== name);
+  for (const key of ["races", "rounded", "undoable"]) keep(key, page[key]);
 }
 
 function isNewState(name, version) {
@@ -44,11 +54,11 @@ function isNewState(name, version) {
   return held?.version !== version || held.isOld === true;
 }
 
-const follow = stateFollower(isNewState, takeState, draw);
+const follow = stateFollower(isNewState, takeState, () => { draw(); fetchParts(); });
 
 async function takeNews(versions) {
   queue.send();
-  if (page.classes.length !== Object.keys(versions).length && await comeIn() === 200) setClasses(me.classes);
+  if (!areServed(page.classes, versions) && await comeIn() === 200) setClasses(me.classes);
   follow(versions);
 }
 
@@ -107,7 +117,7 @@ async function begin() {
   nameParts();
   drawKeys();
   listenToKeys();
-  countUnsentBy(() => queue.unsent.filter(item => item.state !== "sending").length);
+  countUnsentBy(() => queue.unsent.filter(item => item.state !== "sending").length + page.moments.filter(one => !one.by).length);
   page.redraw = draw;
   takeKept();
   draw();

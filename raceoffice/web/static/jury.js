@@ -4,6 +4,7 @@ import {byId, element, fill} from "./elements.js";
 import {text} from "./texts.js";
 import {ask, newId} from "./office.js";
 import {say} from "./dialogs.js";
+import {moveWords} from "./moves.js";
 import {kindOf, spaced} from "./sails.js";
 import {saidWords} from "./said-words.js";
 import {addressOf, agrees, sendAsking, told} from "./sending.js";
@@ -18,6 +19,8 @@ import {previewBox} from "./jury-preview.js";
 
 // Milliseconds: until a preview is asked for after a choice and after a letter, and for its answer
 const SOON = 250, TYPED = 400, LONG = 30000;
+// What is said of whom a line alone has moved
+const OF_MOVES = ["no-race", "no-move", "changed", "mixed", "moved"];
 // The most letters of a note
 const NOTE = 200;
 
@@ -58,7 +61,7 @@ async function preview() {
 }
 
 async function sendDecision() {
-  const line = wanted(), name = form.class, {asked: questions = [], lines, tag} = shown ?? {};
+  const line = wanted(), name = form.class, {asked: questions = [], lines, tag, moves = []} = shown ?? {};
   if (shown?.line !== line) return;
   if (shown.entries !== state(name).entries) {
     say(text("jury.lookAgain"));
@@ -67,17 +70,23 @@ async function sendDecision() {
   }
   const kept = isKept() && {...given(), lines, tag};
   for (const question of questions) if (await agrees(name, question) !== "yes") return;
-  const agreed = questions.map(agreedOf), done = kept ? await decide(name, {...kept, agreed}) : await send(name, line, {agreed});
+  const agreed = questions.map(agreedOf), done = kept ? await decide(name, {...kept, agreed}, moves) : await send(name, line, {agreed});
   if (!done || done.outcome === "refused") return;
-  say(saidWords(done.said).slice(0, 3).join("\n") || text("jury.kept"));
+  say((done.words ?? saidWords(done.said)).slice(0, 3).join("\n") || text("jury.kept"));
   if (form.class === name && wanted() === line) nothing();
 }
 
-// A decision without a line of its own: it is kept if it still comes to what was shown. Gives what was said of its lines, or
-// null if it wasn't sent.
-async function decide(name, kept) {
+// A decision without a line of its own: it is kept if it still comes to what was shown. Gives what was said of its lines, with
+// the words of them all, or null if it wasn't sent.
+async function decide(name, kept, moves) {
   const came = await sendAsking("decide", name, {id: newId(), ...kept}, {patience: LONG});
-  return came && told(came.done.at(-1), came.done.flatMap(one => one.said));
+  return came && {...told(came.done.at(-1), came.done.flatMap(one => one.said)), words: wordsOfAll(came.done, moves)};
+}
+
+// What is said of all lines of a decision: what is so after the last one, and whom they move together, as it was shown
+function wordsOfAll(done, moves) {
+  const last = done.at(-1)?.said.filter(one => !OF_MOVES.includes(one.what)) ?? [];
+  return [...saidWords(last), ...moves.map(move => moveWords(move))];
 }
 
 async function chooseBoat() {

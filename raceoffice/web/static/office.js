@@ -12,8 +12,8 @@ export let isOut = false;
 // the clock is learnt; after how long without a sign of life a connection is taken for dead; and until a state is asked for
 // again if nobody answered.
 const PATIENCE = 8000, SLOWER = 50, SILENT = 12000, LOOK = 3000, AGAIN = 1000;
-// Milliseconds by which this device's clock and the time that passes may part until it counts as set, and by which
-// what was learnt of the office's clock at two times may differ if nobody has set this one in between
+// Milliseconds by which two times may part that are the same, and by which what was learnt of the office's clock at two
+// times may differ if nobody has set this device's one in between
 const SET = 500, ALIKE = 1000, CLOCK = "clock";
 
 let unsentCount = () => 0, unsentHeard = 0, learnt = () => {};
@@ -22,53 +22,68 @@ export function newId() {
   return [...crypto.getRandomValues(new Uint8Array(16))].map(byte => byte.toString(16).padStart(2, "0")).join("");
 }
 
+const isNear = (one, other, by) => Math.abs(one - other) < by;
 // When this page began, by the device's clock as it is set now
 const origin = () => Date.now() - performance.now();
 
-// By how much the office's clock is ahead of this device's, and how long the answer took from which that was learnt. It is
-// kept on the device. `span` names the time since the clock was last set, or the device slept: they look alike. `isKnown`
-// says whether the office was heard in it.
-const clock = {ahead: 0, took: Infinity, ...keptClock(), origin: origin(), span: newId(), isKnown: false};
+// There are two clocks: the device's, which may be set at any time, and the time that passes in this page, which stops
+// while the device sleeps. `ahead` is by how much the office's clock is ahead of the first one, and `zero` what it showed
+// when the second one began, null if this page hasn't heard the office. `took` is how long the answer took from which
+// `ahead` was learnt. `back` is by how much the first one was put back since, and `seen` its origin at the last look.
+const PAGE = newId(), clock = {ahead: 0, took: Infinity, back: 0, ...keptClock(), zero: null, seen: origin()};
 
 function keptClock() {
   try { return JSON.parse(localStorage.getItem(CLOCK)); } catch { return null; }
 }
 
-// Sees whether the clock was set, or the device slept. Sleep only puts it forward.
-function lookAtClock() {
-  const by = origin() - clock.origin;
-  if (Math.abs(by) < SET) return;
-  clock.ahead -= Math.min(by, 0);
-  Object.assign(clock, {origin: origin(), span: newId(), isKnown: false});
+function keepClock() {
+  const {ahead, took, back} = clock;
+  try { localStorage.setItem(CLOCK, JSON.stringify({ahead, took, back})); } catch { /* no room */ }
 }
 
+// Sees whether the clock was put back. If it goes forward, it was set, or the device has slept: they look alike.
+function lookAtClock() {
+  const by = origin() - clock.seen;
+  clock.seen += by;
+  if (by > -SET) return;
+  clock.back -= by;
+  keepClock();
+}
+
+// Whether the office's clock is known: both clocks say the same of it.
 export function isClockKnown() {
   lookAtClock();
-  return clock.isKnown;
+  return clock.zero !== null && isNear(origin() + clock.ahead, clock.zero, SET);
 }
 
 // The time by the office's clock: taps of several devices are compared by it.
 export function now() {
-  lookAtClock();
-  return Date.now() + clock.ahead;
+  return Date.now() + (isClockKnown() ? clock.ahead : clock.ahead + clock.back);
 }
 
-// This moment: `at` by the office's clock, and `clock` if that isn't sure, since the office wasn't heard in this span.
+// This moment: `at` by the office's clock, and `clock` if that isn't sure.
 export function moment() {
-  const at = now(), {span, ahead} = clock;
-  return clock.isKnown ? {at} : {at, clock: {span, ahead}};
+  const at = now(), {zero} = clock;
+  return isClockKnown() ? {at} : {at, clock: {page: PAGE, origin: origin(), ahead: at - Date.now(), zero}};
 }
 
-// What a moment is if the clock was set before it, and not since
-export const momentNow = one => one.at + clock.ahead - one.clock.ahead;
-
-// Makes a moment sure, if the office was heard in its span, or has the same clock as before it; whether it did.
+// Settles a moment that isn't sure, once the office was heard after it; whether it did. `at` is right if the clock wasn't
+// set before it, and `now` if it wasn't set after it; `before` and `after` are if the device didn't sleep there. What both
+// clocks say is right. Otherwise `at` is, if the clock can't have been set. If nothing is sure, somebody is asked.
 export function settle(one) {
-  if (!one.clock || one.clock.span !== clock.span && Math.abs(clock.ahead - one.clock.ahead) > ALIKE) return false;
-  one.at = momentNow(one);
-  delete one.clock;
+  if (!one.clock || one.clock.others) return false;
+  const {at, clock: {page, origin: began, ahead, zero}} = one, isHere = page === PAGE, passed = at - ahead - began;
+  const now = at - ahead + clock.ahead, before = (zero ?? NaN) + passed, after = isHere ? clock.zero + passed : NaN;
+  const isAwake = isHere && isNear(began, origin(), SET) || isNear(before, after, ALIKE);
+  const isUnset = !clock.back && isNear(now, at, ALIKE) && at < Date.now() + clock.ahead + ALIKE;
+  const sure = isAwake ? after : [at, now].find(time => isNear(time, before, ALIKE) || isNear(time, after, ALIKE)) ?? (isUnset && at);
+  if (sure) Object.assign(one, {at: Math.round(sure), clock: undefined});
+  else one.clock = {...one.clock, others: {now, before, after}};
   return true;
 }
+
+// Whether two moments that aren't sure go by one clock
+export const isOneClock = (one, other) => one.page === other?.page && one.origin !== undefined && isNear(one.origin, other.origin, SET);
 
 // Calls `done` whenever the office's clock was learnt.
 export function followClock(done) {
@@ -80,17 +95,18 @@ export function countUnsentBy(count) {
   unsentCount = count;
 }
 
-// Learns from an answer that was asked for at a moment of performance.now(). A quick one is exact. So is one after which
-// what is known can't be: one of both clocks was set.
-function learnClock(officeTime, asked, span) {
+// Learns from an answer that was asked for at a moment of performance.now(), if the clock wasn't set meanwhile. A quick one
+// is exact. So is one after which what is known can't be: one of both clocks was set.
+function learnClock(officeTime, asked, began) {
   const took = performance.now() - asked, ahead = Math.round(officeTime + took / 2 - Date.now());
-  isClockKnown();
-  if (!officeTime || span !== clock.span) return;
+  lookAtClock();
+  if (!officeTime || !isNear(began, origin(), SET)) return;
   const isSet = Math.abs(ahead - clock.ahead) > (took + clock.took) / 2 + SLOWER;
   if (isSet || took <= clock.took + SLOWER) Object.assign(clock, {ahead, took});
-  clock.isKnown = true;
-  try { localStorage.setItem(CLOCK, JSON.stringify({ahead: clock.ahead, took: clock.took})); } catch { /* no room */ }
+  clock.zero = origin() + clock.ahead;
   learnt();
+  clock.back = 0;
+  keepClock();
 }
 
 // Says how many taps wait, if the office has last heard of another number, and hears what time it is.
@@ -108,20 +124,28 @@ async function isTokenOld(token) {
   return me !== null && await comeIn() === 200 && me.token !== token;
 }
 
+// What a page of somebody else's, as a hotel's, answers in place of the office counts as nothing: it isn't JSON of its form.
+async function valuesOf(answer) {
+  const values = await answer.json();
+  if (values === null || typeof values !== "object" || !answer.ok && !("words" in values || "outcome" in values)) throw new Error("not the office");
+  return values;
+}
+
 // Asks the office, and gives {status, ..values}. Status 0: nobody answered.
 export async function ask(path, body, patience = PATIENCE) {
   lookAtClock();
-  const asked = performance.now(), {span} = clock, token = me?.token, stop = new AbortController(), unsent = unsentCount();
+  const asked = performance.now(), began = origin(), token = me?.token, stop = new AbortController(), unsent = unsentCount();
   const timer = setTimeout(() => stop.abort(), patience);
   try {
     const answer = await fetch(path.startsWith("/") ? path : `/office/${role}/${path}`, {
       method: body === undefined ? "GET" : "POST", headers: fieldsOf(body, unsent), signal: stop.signal, cache: "no-cache",
       body: body === undefined ? undefined : JSON.stringify(body)});
-    if (answer.status === 403 && await isTokenOld(token)) return await ask(path, body, patience);
+    const values = await valuesOf(answer);
+    // What is only read needs no token.
+    if (answer.status === 403 && body !== undefined && await isTokenOld(token)) return await ask(path, body, patience);
     isOut = [401, 403].includes(answer.status);
     unsentHeard = unsent;
-    const values = await answer.json();
-    learnClock(values.now, asked, span);
+    learnClock(values.now, asked, began);
     return Array.isArray(values) ? {list: values, status: answer.status} : {...values, status: answer.status};
   } catch {
     return {status: 0, words: text("common.notReached")};
@@ -143,6 +167,9 @@ export async function comeIn() {
   }
   return found.status;
 }
+
+// Whether news is about just these classes
+export const areServed = (classes, versions) => classes?.map(one => one.class).sort().join("/") === Object.keys(versions).sort().join("/");
 
 // News for as long as the page is open: `seen` gets the versions of all classes, `told` how the link is:
 // live, away, or out if this device isn't let in any more.

@@ -3,9 +3,8 @@
 // sent in order within its class, and goes when the office has answered it and its race shows it: until then a
 // page that is loaded again without a connection needs it. Its identity stays the same however often it is sent:
 // the office does it once.
-import {ask, comeIn, isClockKnown, moment, newId} from "./office.js";
-import {loadRest} from "./texts.js";
-import {troubleOf} from "./refusals.js";
+import {ask, comeIn, moment, newId} from "./office.js";
+import {loadRest, troubleOf} from "./texts.js";
 
 const PREFIX = "tap:";
 const WAITING = ["unsent", "sending", "asked"];
@@ -20,15 +19,19 @@ async function inWords(said) {
   return troubleWords(said);
 }
 
-// The taps that were kept when the page was left. One that was on its way is sent again.
+// The taps that were kept when the page was left
 function keptItems() {
   const keys = Object.keys(localStorage).filter(key => key.startsWith(PREFIX)).sort();
-  return keys.map(key => itemOf(key, localStorage.getItem(key)));
+  return keys.map(key => itemOf(key, localStorage.getItem(key))).filter(Boolean);
 }
 
+// A tap as it was kept; null if it is none. One that was on its way is sent again, and so is one of which nothing is asked.
 function itemOf(key, kept) {
-  const item = {...JSON.parse(kept), key};
-  return item.state === "sending" ? {...item, state: "unsent"} : item;
+  let item = null;
+  try { item = JSON.parse(kept); } catch { /* not a tap */ }
+  if (typeof item?.line !== "string" || typeof item.class !== "string") return null;
+  const isHeld = item.state === "asked" && (item.question || item.clock?.others);
+  return {agreed: [], ...item, key, state: WAITING.includes(item.state) && !isHeld ? "unsent" : item.state};
 }
 
 export class Queue {
@@ -45,9 +48,10 @@ export class Queue {
   // Takes over what another tab has done with an item.
   takeOver(item, kept) {
     if (!item) return;
-    Object.assign(item, {clock: undefined}, kept ? itemOf(item.key, kept) : {state: "gone"});
+    const found = itemOf(item.key, kept);
+    Object.assign(item, {clock: undefined}, found ?? {state: "gone"});
     // This tab may have kept it again just before it heard of that.
-    if (kept) this.told(item);
+    if (found) this.told(item);
     else this.drop(item);
   }
 
@@ -88,6 +92,10 @@ export class Queue {
   drop(item) {
     localStorage.removeItem(item.key);
     this.items = this.items.filter(other => other !== item);
+    // There may be room for the others now.
+    const hadNoRoom = this.isFull;
+    this.isFull = false;
+    if (hadNoRoom) this.items.forEach(other => this.keep(other));
     this.told(item);
   }
 
@@ -114,18 +122,20 @@ export class Queue {
         mayFollow = item !== undefined && item.state !== "asked" && await this.sendItem(item);
       }
     } finally {
+      // Nothing goes wrong here; but if it did, what was on its way would be sent again.
+      for (const item of this.of(name)) if (item.state === "sending") item.state = "unsent";
       this.busy.delete(name);
     }
   }
 
-  // Whether the moment of an item is known, once the office was heard. If the clock was set since, somebody is asked.
+  // Settles the moment of an item once the office was heard; whether it goes. If it isn't known, and matters, somebody is
+  // asked.
   async isMomentKnown(item) {
-    if (!item.clock || !TIMED.test(item.line)) return true;
-    if (!isClockKnown()) await comeIn();
+    if (item.clock && !item.clock.others) await comeIn();
     if (!item.clock || !this.items.includes(item)) return true;
-    if (isClockKnown()) this.change(item, {state: "asked"});
-    else this.answered(item, {status: 0});
-    return false;
+    if (!item.clock.others) return this.answered(item, {status: 0});
+    if (TIMED.test(item.line)) this.change(item, {state: "asked"});
+    return item.state !== "asked";
   }
 
   // Sends one item; whether the next may follow.
@@ -140,25 +150,32 @@ export class Queue {
     return !this.items.includes(item) || this.answered(item, said);
   }
 
+  // Puts what was said of an item into the words of this page.
+  async translate(item, said) {
+    const {words} = item, own = await inWords(said).catch(() => words);
+    if (item.words === words) this.change(item, {words: own});
+  }
+
   // Takes over an answer of the office; whether the next tap may follow.
   answered(item, said) {
-    if (said.status === 200) {
+    if (said.status === 200 && said.outcome) {
       this.tries = 0;
       this.change(item, {state: said.outcome === "refused" ? "refused" : "done", answer: said.answer,
-        words: said.said.map(one => one.text).join(" ").trim(), entry: said.entry, version: said.version, mark: said.mark});
+        words: (said.said ?? []).map(one => one.text).join(" ").trim(), entry: said.entry, version: said.version, mark: said.mark});
       return true;
     }
-    if (said.status === 409) {
+    if (said.status === 409 && said.question) {
       this.change(item, {state: "asked", question: said.question, isWhere: said.outcome === "elsewhere", byClock: said.clock});
       return false;
     }
     if (said.status === 422 || said.status === 400) {
       this.change(item, {state: "refused", words: said.words});
-      inWords(said).then(words => { if (this.items.includes(item)) this.change(item, {words}); }, () => {});
+      this.translate(item, said);
       return true;
     }
     // Nobody has answered, or the office is away: the same again, later.
-    this.change(item, {state: "unsent", words: troubleOf(said)});
+    this.change(item, {state: "unsent", words: said.status ? troubleOf(said) : ""});
+    if (said.said) this.translate(item, said);
     setTimeout(() => this.send(), pauseAfter(this.tries++));
     return false;
   }

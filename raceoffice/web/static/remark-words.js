@@ -1,8 +1,7 @@
 'use strict';
 // What the office says of a list, of settings, of a decision or of what was asked for, in the words of this page. It
 // comes as a kind with its values, and with English words for a kind that this page doesn't know.
-import {hasText, text} from "./texts.js";
-import {refusalOf, troubleOf} from "./refusals.js";
+import {hasText, refusalOf, text, troubleOf} from "./texts.js";
 import {spaced} from "./sails.js";
 import {rulesWords} from "./rules-words.js";
 import {moveWords} from "./moves.js";

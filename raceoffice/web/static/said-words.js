@@ -1,10 +1,9 @@
 'use strict';
 // What the office says beside an answer or a question, in the words of this page. It comes as a fixed word for what
 // it says, with values; what has none is the same in every language, or in English.
-import {hasText, ordinal, text} from "./texts.js";
+import {hasText, ordinal, refusalOf, text} from "./texts.js";
 import {moveWords} from "./moves.js";
 import {shownValues} from "./questions.js";
-import {refusalOf} from "./refusals.js";
 import {valueWords} from "./remark-words.js";
 
 const NUMBERED = ["entered", "taken-away", "plan"];

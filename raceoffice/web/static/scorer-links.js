@@ -106,10 +106,16 @@ export function linksPage() {
 
 // Offices
 
+// What is lost sight of while the office of a class is closed: the places that are kept in each race, and the taps on devices
+function stillOpen(name) {
+  const places = Object.entries(state(name)?.races ?? {}).filter(([, race]) => race.unread.length).map(([number, {unread}]) =>
+    `${text("common.race")} ${number}: ${text("scorer.stillUnread", {n: unread.length, marks: unread.map(one => one.mark)})}`);
+  const taps = (known.devices?.devices ?? []).filter(one => one.unsent).map(one => `${one.name}: ${text("links.losesUnsent", {n: one.unsent})}`);
+  return [...places, ...taps].map(words => element("p", {class: "wrong"}, words));
+}
+
 async function closeOffice(name) {
-  const held = (known.devices?.devices ?? []).filter(one => one.unsent);
-  const inside = [element("p", {}, text("office.closeMeans")),
-    ...held.map(one => element("p", {class: "wrong"}, `${one.name}: ${text("links.losesUnsent", {n: one.unsent})}`))];
+  const inside = [element("p", {}, text("office.closeMeans")), ...stillOpen(name)];
   const done = await choose(withClass(text("office.closeQuestion"), name), inside,
     [{value: "", label: text("common.no")}, {value: "yes", label: text("office.closeIt"), look: "bad"}]);
   if (done !== "yes") return;

@@ -5,11 +5,13 @@ import {ordinal, text, timeOfDay} from "./texts.js";
 import {kindOf, spaced} from "./sails.js";
 import {boatOf, called, heldIn, missingFrom, raceNumbered, state} from "./desk.js";
 import {stalePart} from "./jury-kept.js";
+import {remarkSentences} from "./remark-words.js";
 import {finishers, waitingIn} from "./race-view.js";
 import {addFinisher, correct, line, resolve} from "./scorer-corrections.js";
 import {finishersOf, toOtherRace} from "./scorer-other-race.js";
 import {unfinishedPart} from "./scorer-unfinished.js";
 import {correctNames, enterLate, takeOut, unlistedPart} from "./scorer-late.js";
+import {undoButton, undoLast} from "./scorer-undo.js";
 
 // What was compared with the paper on this page: "CLASS RACE SAIL"
 const ticked = new Set();
@@ -71,6 +73,11 @@ function missingParts(race, away) {
     .map(words => element("p", {class: "waits"}, words));
 }
 
+// What keeps the sheet of times from being read, or all its times from the journal: the taps of this race wait meanwhile
+function faultPart(race) {
+  return race.sheet?.why.length ? element("p", {class: "wrong", id: "sheet-fault"}, remarkSentences(race.sheet.why).join("\n")) : null;
+}
+
 // Boats that aren't in the order, each with a button
 function boatButtons(name, race, number, sails) {
   return element("div", {class: "missing"}, sails.map(sail => element("button", {type: "button", "data-key": sail, "data-sail": sail,
@@ -92,17 +99,18 @@ function typedForm(name) {
   const send = async event => {
     event.preventDefault();
     const words = byId("typed").value.trim();
-    if (words && await line(name, words)) byId("typed").value = "";
+    if (words && await (/^undo$/i.test(words) ? undoLast(name) : line(name, words))) byId("typed").value = "";
   };
-  return element("form", {class: "typed", onsubmit: send},
+  // What is typed stays while the race above it changes.
+  return element("form", {class: "typed", "data-key": `typed ${name}`, onsubmit: send},
     element("input", {id: "typed", "aria-label": text("scorer.typeLine"), placeholder: text("scorer.typeLineAs", {line: "before 3 33 9"}), autocomplete: "off", spellcheck: "false"}),
     element("button", {}, text("common.send")));
 }
 
-// What the scorer does with entries, whichever race is shown
+// What the scorer does whichever race is shown: with the last line, and with entries
 function entriesPart(name) {
   const button = (id, key, press, look = "") => element("button", {type: "button", id, class: look, onclick: () => press(name)}, text(key));
-  return element("div", {class: "acts"}, button("late", "scorer.lateEntry", enterLate), button("correct-names", "scorer.correctNames", correctNames),
+  return element("div", {class: "acts"}, undoButton(name), button("late", "scorer.lateEntry", enterLate), button("correct-names", "scorer.correctNames", correctNames),
     button("take-out", "scorer.takeOut", takeOut, "quiet bad"));
 }
 
@@ -114,7 +122,7 @@ function actions(name, race, number, isEmpty) {
     element("button", {type: "button", id: "add", onclick: () => addFinisher(name, number)}, text("scorer.addFinisher")),
     element("button", {type: "button", id: "other-race", disabled: !finishersOf(name, race).length, onclick: () => toOtherRace(name, number)}, text("scorer.otherRaceShort")),
     element("span", {class: "grow"}),
-    element("button", {type: "button", class: "quiet bad", id: "abandon", disabled: isEmpty, onclick: () => line(name, `ABANDON ${number}`)}, text("scorer.abandon")));
+    element("button", {type: "button", class: "quiet bad", id: "abandon", disabled: isEmpty && !race.sheet, onclick: () => line(name, `ABANDON ${number}`)}, text("scorer.abandon")));
 }
 
 export function racePane(name, number, draw) {
@@ -122,12 +130,13 @@ export function racePane(name, number, draw) {
   const race = raceNumbered(name, number), waiting = waitingIn(race), rows = rowsOf(name, race, number);
   const away = missingFrom(name, race).filter(sail => race.counts || !waiting.includes(sail));
   const counts = [text("scorer.finishedCount", {n: placed(race).length}), text("scorer.codedCount", {n: Object.keys(race.codes).length}),
-    text(race.counts ? "scorer.dncCount" : "scorer.missingCount", {n: away.length})].join(" · ");
+    text(race.counts ? "scorer.dncCount" : "scorer.missingCount", {n: away.length}),
+    race.sheet?.start ? `${text("finish.start")} ${race.sheet.start}` : ""].filter(Boolean).join(" · ");
   return element("section", {class: "pane", "aria-labelledby": "race-title"},
     element("header", {}, element("h2", {id: "race-title"}, `${text("common.race")} ${number} `),
       element("span", {class: `chip ${race.counts ? "good" : "wait"}`}, text(race.counts ? "scorer.counts" : "scorer.doesntCount")),
       element("span", {class: "soft"}, counts)),
-    unfinishedPart(name), actions(name, race, number, !rows.length), rows.length ? comparedLine(name, race, number) : null, waitingPart(name, race, number, waiting), missingParts(race, away),
+    unfinishedPart(name), actions(name, race, number, !rows.length), rows.length ? comparedLine(name, race, number) : null, faultPart(race), waitingPart(name, race, number, waiting), missingParts(race, away),
     stalePart(state(name).decisions),
     orderTable(rows), awayPart(name, race, number, away), unlistedPart(name), typedForm(name), entriesPart(name));
 }

@@ -54,6 +54,10 @@ function pointWords({kind, values, text: english, remarks = {}}) {
         marks: values.marks.map((mark, at) => text("results.markInRace", {mark, race: values.races[at]}))});
     case "taps-unsent":
       return text("results.tapsUnsent", values);
+    case "sheet-unsent":
+      return text("results.sheetUnsent", {race: values.race, sails: values.sails.map(spaced)});
+    case "sheet-unread":
+      return text("results.sheetUnread", {race: values.race, fault: remarks.fault ? valueWords("fault", remarks.fault) : values.fault});
     case "places-unread":
       return text("results.placesUnread", remarks.fault ? {fault: valueWords("fault", remarks.fault)} : values);
     case "decision-stale":

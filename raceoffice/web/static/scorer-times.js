@@ -13,6 +13,8 @@ import {send, state} from "./desk.js";
 
 const RACES = 40;
 const HOUR = 3600, MINUTE = 60;
+// How often a sheet is saved again that boats finish in meanwhile
+const SAVES = 5;
 // The race that is shown, and its sheet
 let number = 0, shown = null;
 
@@ -34,6 +36,7 @@ class Sheet {
     this.night = element("input", {type: "checkbox", id: "overnight", checked: found.overnight});
     this.node = element("form", {class: "step", onsubmit: event => { event.preventDefault(); this.save(); }},
       element("h2", {}, text("times.sheetOf", {number: found.race})), element("p", {class: "soft"}, text("times.whatFor")),
+      this.changed = element("p", {class: "waits", role: "status", hidden: true}),
       element("div", {class: "wide", tabindex: "0", role: "region", "aria-label": text("times.sheetOf", {number: found.race})}, this.table()),
       element("fieldset", {class: "options"}, element("legend", {}, text("times.forTicked")),
         element("div", {class: "numbers"}, this.forAll.map(key => element("label", {class: "number"}, text(`times.${key}`), this.all[key]))),
@@ -68,7 +71,7 @@ class Sheet {
   // Her finish or her code, which a press corrects
   byHand(row) {
     return element("button", {type: "button", class: "quiet", "data-hand": row.sail, "aria-label": `${spaced(row.sail)}: ${text("times.byHand")}`,
-      onclick: async () => { if (await correctByHand(this.name, this.found.race, row)) this.again(); }}, row.code || row.finish || "–");
+      onclick: async () => { if (await correctByHand(this.name, this.found.race, row)) this.again(this); }}, row.code || row.finish || "–");
   }
 
   corrected(sail) {
@@ -87,21 +90,64 @@ class Sheet {
     }
   }
 
-  // Saves the sheet, and sends the times that follow from it.
-  async save() {
+  // What is typed: of each boat the cells that aren't as in the sheet
+  typed() {
     const rows = {};
-    for (const {sail, ...row} of this.found.rows) {
+    for (const {sail, ...row} of this.found.rows.filter(one => this.fields.has(one.sail))) {
       const fields = this.fields.get(sail), given = this.columns.filter(key => fields[key].value.trim() !== row[key]);
       if (given.length) rows[sail] = Object.fromEntries(given.map(key => [key, fields[key].value.trim()]));
     }
-    const saved = await ask(at(this.name), {race: this.found.race, rows, tag: this.found.tag, overnight: this.night.checked});
+    return rows;
+  }
+
+  // Takes over what was typed into the sheet as it was shown before, and shows what has changed in it since.
+  takeOver(before) {
+    const typed = before.typed(), changes = this.changesSince(before.found);
+    for (const [sail, fields] of this.fields) {
+      for (const [key, value] of Object.entries(typed[sail] ?? {})) fields[key].value = value;
+      fields.tick.checked = before.fields.get(sail)?.tick.checked ?? false;
+    }
+    for (const key of this.forAll) this.all[key].value = before.all[key].value;
+    if (before.night.checked !== before.found.overnight) this.night.checked = before.night.checked;
+    this.isForm = changes.some(({key}) => this.columns.includes(key));
+    this.changed.hidden = !changes.length;
+    this.changed.textContent = text("times.changed", {what: changes.map(({sail, key, value}) =>
+      `${spaced(sail)} ${text(`times.${key}`)} ${value || "–"}`).join(", ")});
+  }
+
+  // The cells that aren't as they were
+  changesSince(found) {
+    const was = new Map(found.rows.map(row => [row.sail, row]));
+    return this.found.rows.flatMap(({sail, ...row}) => [...this.columns, "finish", "code"].filter(key => row[key] !== (was.get(sail)?.[key] ?? ""))
+      .map(key => ({sail, key, value: row[key]})));
+  }
+
+  // Saves the sheet, and sends the times that follow from it. If somebody has changed it meanwhile, what is typed stays; a
+  // finish or a code is no reason to look at it again.
+  async save(left = SAVES) {
+    const {race, tag} = this.found, rows = this.typed(), saved = await ask(at(this.name), {race, rows, tag, overnight: this.night.checked});
     if (saved.status !== 200) {
-      say(troubleWords(saved), true);
+      const newer = saved.status === 422 && await this.again(this);
+      if (newer && newer.found.tag !== tag && !newer.isForm && left) await newer.save(left - 1);
+      else say(troubleWords(saved), true);
       return;
     }
-    const done = await send(this.name, `TIMES ${this.found.race}`);
-    if (done && done.outcome !== "refused") say(saidWords(done.said).slice(0, 3).join("\n") || text("times.saved"));
-    this.again();
+    this.takeSaved(saved, rows);
+    const done = await send(this.name, `TIMES ${race}`);
+    if (!done) say(text("times.savedAlone"), true);
+    else if (done.outcome !== "refused") say(saidWords(done.said).slice(0, 3).join("\n") || text("times.saved"));
+    this.again(this);
+  }
+
+  // Takes over the sheet as it was saved. What was typed since stays.
+  takeSaved(saved, rows) {
+    this.found = saved;
+    for (const {sail, ...row} of saved.rows) {
+      const fields = this.fields.get(sail);
+      if (fields) fields.tick.checked = false;
+      for (const [key, value] of Object.entries(rows[sail] ?? {})) if (fields[key].value.trim() === value) fields[key].value = row[key];
+    }
+    for (const key of this.forAll) this.all[key].value = "";
   }
 }
 
@@ -111,13 +157,18 @@ function raceField(again) {
     element("select", {id: "times-race", onchange: event => { number = Number(event.target.value); again(); }}, options));
 }
 
-async function show(page, name) {
-  const asked = number, found = await ask(at(name, `/${asked}`)), again = () => show(page, name);
+// Shows the sheet of a race: again with what was typed into it, if it is shown already. Gives it, or null.
+async function show(page, name, before = null) {
+  const asked = number, found = await ask(at(name, `/${asked}`)), again = sheet => show(page, name, sheet);
   // Somebody may have gone on to another race or class.
-  if (asked !== number || !page.isConnected) return;
+  if (asked !== number || !page.isConnected) return null;
   const wrong = found.status !== 200 ? troubleWords(found) : remarkSentences(found.wrong).join("\n");
+  // What was typed isn't thrown away for that.
+  if (wrong && before) return null;
   shown = wrong ? null : new Sheet(name, found, again);
-  page.replaceChildren(raceField(again), shown?.node ?? element("p", {class: "step wrong"}, wrong));
+  if (before) shown.takeOver(before);
+  page.replaceChildren(raceField(() => again()), shown?.node ?? element("p", {class: "step wrong"}, wrong));
+  return shown;
 }
 
 // What the office has taken since the sheet was shown

@@ -5,8 +5,8 @@ import {element} from "./elements.js";
 import {text} from "./texts.js";
 import {ask, newId, now} from "./office.js";
 import {choose, say} from "./dialogs.js";
-import {addressOf, sendAsking, told, withClass} from "./sending.js";
-import {state} from "./desk.js";
+import {addressOf, keepLast, sendAsking, told, withClass} from "./sending.js";
+import {redraw, state} from "./desk.js";
 
 const mono = lines => element("p", {class: "mono"}, lines.join("\n"));
 
@@ -25,6 +25,8 @@ export async function lines(name, several, id = newId(), agreed = []) {
   const came = several.length ? await sendWhole(name, id, several, {agreed}) : null;
   if (!came) return false;
   const {outcome, done, left} = came;
+  keepLast(name, {id: "", line: ""});
+  redraw();
   if (outcome === "taken") {
     say(text("scorer.linesSent", {n: done.length}));
     return true;

@@ -1,11 +1,10 @@
 'use strict';
 // Sends lines of a page that is connected: the scorer's and the jury's.
 import {element} from "./elements.js";
-import {text} from "./texts.js";
+import {refusalOf, text} from "./texts.js";
 import {ask, me, newId, now} from "./office.js";
 import {choose, say} from "./dialogs.js";
 import {agreedOf, wordsOf} from "./questions.js";
-import {refusalOf} from "./refusals.js";
 import {moveOf, remarkSentences, troubleWords} from "./remark-words.js";
 import {byWhom, saidWords} from "./said-words.js";
 import {rulesWords} from "./rules-words.js";
@@ -70,8 +69,18 @@ export async function sendAsking(what, name, values, {patience, tries = TRIES} =
 
 // Sends a line; the answer, or null if nothing was sent.
 export async function sendLine(name, line, seen, more = {}) {
-  const said = await sendAsking("line", name, {id: newId(), line, seen, at: now(), ...more});
+  const id = newId(), said = await sendAsking("line", name, {id, line, seen, at: now(), ...more});
+  if (said && said.outcome !== "refused") keepLast(name, {id, line: said.line});
   return said && told(said, said.said);
+}
+
+// The last line of a class that was taken from this tab, `{id, line}`, also of a page that was loaded again. It has no id if
+// that was a correction of several lines. Null if there is none.
+export const lastLine = name => JSON.parse(sessionStorage.getItem(`last:${name}`));
+
+// An undo that had nothing to take back leaves nothing that could be.
+export function keepLast(name, last) {
+  sessionStorage.setItem(`last:${name}`, JSON.stringify(last.line === "UNDO" ? null : last));
 }
 
 // Whether what wasn't answered is sent again: that is so for a while, after a pause.

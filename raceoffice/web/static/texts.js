@@ -6,7 +6,7 @@ import {element} from "./elements.js";
 export const LANGUAGES = {en: "English", de: "Deutsch", fr: "Français", es: "Español", it: "Italiano", nl: "Nederlands"};
 const KEPT = "language";
 
-let table = {};
+let table = {}, isWhole = false;
 export let language = "en";
 let plural = new Intl.PluralRules("en"), places = new Intl.PluralRules("en", {type: "ordinal"});
 
@@ -34,12 +34,25 @@ export async function loadTexts(isFinish = false) {
   document.documentElement.lang = language;
 }
 
-// Fetches the other words, too.
+// Fetches the other words, too, until they are there.
 export async function loadRest() {
-  Object.assign(table, await tableOf(`${language}-desk`));
+  if (!isWhole) Object.assign(table, await tableOf(`${language}-desk`));
+  isWhole = true;
 }
 
 export const hasText = key => key in table;
+
+// Why a line was refused, by the number that the program gave: "NO 8"
+export function refusalOf(answer, words) {
+  const number = /^NO (\d+)/.exec(answer ?? "")?.[1];
+  return number && hasText(`refused.${number}`) ? text(`refused.${number}`) : words;
+}
+
+// What is wrong with an answer that isn't a result
+export function troubleOf(answer) {
+  const key = `trouble.${answer.status}`;
+  return hasText(key) ? text(key) : answer.words ?? text("common.notSent");
+}
 
 // The form of a text for a number: its own form for nought if it has one, or that of the language's rules.
 function form(forms, number) {

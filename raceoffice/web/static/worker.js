@@ -1,24 +1,32 @@
 'use strict';
 // Keeps the finish page, so that it opens without a connection. Browsers run this over HTTPS alone, or on the
 // computer itself. What is asked of the office is never kept.
-const KEPT = "office-3";
-// Milliseconds for the office to answer, until what is kept is taken
-const PATIENCE = 2500;
-const STATIC = "/office/static/";
-const FILES = ["base.css", "finish.css", "finish.webmanifest", "elements.js", "texts.js", "office.js", "dialogs.js", "sails.js", "questions.js", "refusals.js",
+//
+// A page has all its files of one release. They are fetched before this worker is used, whole or not at all, and nothing is
+// put to them later. A newer worker waits until no page has the files of this one.
+const FILES = ["base.css", "finish.css", "finish.webmanifest", "elements.js", "texts.js", "office.js", "dialogs.js", "sails.js", "questions.js",
   "queue.js", "race-view.js", "finish-state.js", "finish-taps.js", "finish-answers.js", "finish-grid.js", "finish-list.js", "finish-top.js",
-  "finish-dock.js", "finish-start.js", "finish.js"].map(name => STATIC + name);
-const PAGE = "/office/finish/";
+  "finish-dock.js", "finish-start.js", "finish-rows.js", "finish.js", "remark-words.js", "rules-words.js", "moves.js", "sheet-why.js", "texts/de.json", "texts/en.json", "texts/es.json", "texts/fr.json",
+  "texts/it.json", "texts/nl.json"];
+// The office puts in what tells its release from others, and each file from what it was before.
+const RELEASE = {name: "", tags: {}};
+const KEPT = `office-${RELEASE.name}`, PAGE = "/office/finish/";
+const PATHS = [PAGE, ...FILES.map(name => `/office/static/${name}`)];
 
-const isKept = path => path === PAGE || FILES.includes(path) || path.startsWith(`${STATIC}texts/`);
+// The first characters of the SHA-256 of a file, as the office writes them
+async function tagOf(data) {
+  return btoa(String.fromCharCode(...new Uint8Array(await crypto.subtle.digest("SHA-256", data)))).slice(0, 8);
+}
+
+async function fetched(path) {
+  const answer = await fetch(path, {cache: "no-cache"});
+  if (!answer.ok || await tagOf(await answer.clone().arrayBuffer()) !== RELEASE.tags[path]) throw new Error(`${path} is of another release`);
+  return [path, answer];
+}
 
 async function install() {
-  const store = await caches.open(KEPT);
-  await store.addAll([PAGE, ...FILES]);
-  // The words of the languages that this device asks for first, if they are there
-  const languages = navigator.languages.map(one => one.slice(0, 2).toLowerCase());
-  await Promise.allSettled([...new Set([...languages, "en"])].map(one => store.add(`${STATIC}texts/${one}.json`)));
-  await skipWaiting();
+  const answers = await Promise.all(PATHS.map(fetched)), store = await caches.open(KEPT);
+  await Promise.all(answers.map(([path, answer]) => store.put(path, answer)));
 }
 
 async function activate() {
@@ -28,22 +36,20 @@ async function activate() {
 }
 
 async function answer(request) {
-  const store = await caches.open(KEPT);
-  const stop = new AbortController(), timer = setTimeout(() => stop.abort(), PATIENCE);
-  try {
-    const found = await fetch(request, {signal: stop.signal});
-    if (found.ok) store.put(request, found.clone());
-    return found;
-  } catch {
-    return await store.match(request, {ignoreSearch: true}) ?? Response.error();
-  } finally {
-    clearTimeout(timer);
+  const {waiting} = registration;
+  // A page that is loaded while no other is open begins with the newer worker.
+  if (waiting && request.mode === "navigate" && (await clients.matchAll()).length < 2) {
+    waiting.postMessage("begin");
+    return new Response("", {headers: {"Refresh": "0"}});
   }
+  const store = await caches.open(KEPT);
+  return await store.match(request, {ignoreSearch: true, ignoreVary: true}) ?? fetch(request);
 }
 
 addEventListener("install", event => event.waitUntil(install()));
 addEventListener("activate", event => event.waitUntil(activate()));
+addEventListener("message", () => skipWaiting());
 addEventListener("fetch", event => {
   const {method, url} = event.request;
-  if (method === "GET" && isKept(new URL(url).pathname)) event.respondWith(answer(event.request));
+  if (method === "GET" && PATHS.includes(new URL(url).pathname)) event.respondWith(answer(event.request));
 });

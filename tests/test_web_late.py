@@ -1,0 +1,282 @@
+"""What was tapped some time before it comes: meanwhile the race was abandoned, the boat was struck and recorded again, or
+others were moved past her."""
+from __future__ import annotations
+
+import os
+import time
+import unittest
+from typing import Any
+from unittest import mock
+
+from on_water import OnWater, lines_of_swap
+from raceoffice.errors import NotSent
+from raceoffice.remarks import remark
+from raceoffice.series.abandoned import note_abandoned
+from raceoffice.series.folder import Folder
+from raceoffice.session.dialogue import Question
+from raceoffice.web.corrections import correct
+from raceoffice.web.finish_order import Elsewhere
+from raceoffice.web.race_start import zone_of
+from raceoffice.web.requests import Wrong
+from raceoffice.web.room import Room
+from raceoffice.web.tap_session import Asked
+from raceoffice.web.taps import Tap
+from web_devices import new_id
+
+
+def sent_back(asked: Question) -> Any:
+    """A question as a page sends it back."""
+    values = {key: list(value) if isinstance(value, tuple) else value for key, value in asked.values.items()}
+    return {"kind": asked.kind, "values": values}
+
+
+class Late(OnWater):
+    def do(self, role: str, name: str, line: str, **more: Any) -> Any:
+        """What came of a tap: its outcome, or the kind of what is asked."""
+        tap = Tap.read({"id": new_id(), "line": line, **more})
+        try:
+            return self.room.do(role, name, tap)["outcome"]
+        except Asked as asked:
+            self.agreed = [sent_back(asked.question)]
+            self.values = self.agreed[0]["values"]
+            return asked.question.kind
+        except Elsewhere as asked:
+            return asked.question.kind
+
+    def abandon(self, race: int) -> None:
+        """The scorer abandons a race."""
+        if self.do("SCORER", "Cy", f"ABANDON {race}") == "abandon":
+            self.assertIn(self.do("SCORER", "Cy", f"ABANDON {race}", agreed=self.agreed), ("taken", "noted"))
+
+    def again(self) -> None:
+        """Another web comes, with what is on the disk."""
+        self.room.close()
+        self.room = Room(Folder(os.path.join(self.here, "cup")), lambda: None)
+
+    # A race that was abandoned
+
+    def test_before_the_race_was_abandoned(self) -> None:
+        """A finish, a place, a code and the undo of a strike that were tapped before the race was abandoned, and come after,
+        are asked about, also after a restart. Those who were tapped later aren't, nor those of another race."""
+        late = int(time.time() * 1000) - 60_000
+        self.assertEqual(self.do("FINISH", "Ann", "FINISH 1 NED12", at=late, behind=""), "taken")
+        struck = new_id()
+        self.room.do("FINISH", "Ann", Tap.read({"id": struck, "line": "STRIKE 1 NED12", "at": late}))
+        self.assertEqual(self.do("FINISH", "Ann", "FINISH 1 IRL5", at=late, behind=""), "taken")
+        self.abandon(1)
+        self.again()
+        cases: list[tuple[str, dict[str, Any]]] = [("FINISH 1 FRA9", {"behind": ""}), ("? 1", {"behind": ""}), ("MARK 1 FRA9 RET", {})]
+        for line, more in cases:
+            self.assertEqual(self.do("FINISH", "Bob", line, at=late, **more), "abandoned-since", line)
+            self.assertEqual(self.values["race"], 1)
+        now = int(time.time() * 1000)
+        self.assertEqual(self.do("FINISH", "Ann", "UNDO", at=now, undoes=struck), "abandoned-since")
+        self.assertEqual(self.seen(1), [])
+        self.assertEqual(self.do("FINISH", "Bob", "FINISH 2 FRA9", at=late, behind=""), "taken")
+        self.assertEqual(self.do("FINISH", "Bob", "FINISH 1 GBR7", at=now, behind=""), "taken")
+        self.assertEqual(self.do("FINISH", "Bob", "FINISH 1 FRA9", at=late, behind=""), "abandoned-since")
+        self.assertEqual(self.do("FINISH", "Bob", "FINISH 1 FRA9", at=late, behind=None, agreed=self.agreed), "taken")
+        self.assertEqual(self.seen(1), [["GBR7"], ["FRA9"]])
+
+    def test_abandoned_with_nothing(self) -> None:
+        """So it is if all taps of that race were still waiting when it was abandoned, and if it was in a window."""
+        late = int(time.time() * 1000) - 60_000
+        self.abandon(1)
+        self.window_bob.session.role = "SCORER"
+        self.window_bob.session.office().ask("ROLE SCORER")
+        self.window_bob.session.do("abandon 2")
+        for race in (1, 2):
+            self.assertEqual(self.do("FINISH", "Ann", f"FINISH {race} FRA9", at=late, behind=""), "abandoned-since")
+
+    def test_abandoned_once_more(self) -> None:
+        """A yes is about the race that was abandoned by then: if it is abandoned once more before that comes, it is asked again."""
+        late = int(time.time() * 1000) - 60_000
+        self.abandon(1)
+        self.assertEqual(self.do("FINISH", "Ann", "FINISH 1 FRA9", at=late, behind=""), "abandoned-since")
+        agreed = self.agreed
+        self.abandon(1)
+        self.assertEqual(self.do("FINISH", "Ann", "FINISH 1 FRA9", at=late, behind="", agreed=agreed), "abandoned-since")
+        self.assertEqual(self.do("FINISH", "Ann", "FINISH 1 FRA9", at=late, behind="", agreed=self.agreed), "taken")
+
+    def test_abandoned_by_a_clock_that_was_ahead(self) -> None:
+        """The computer's clock was an hour ahead when a race was abandoned, and was set right: taps of now aren't from before
+        that. The abandoning before it still counts."""
+        now = int(time.time() * 1000)
+        self.abandon(1)
+        with mock.patch.object(time, "time", return_value=now / 1000 + 3600):
+            note_abandoned(self.room.folder, 1)
+        self.assertEqual(self.do("FINISH", "Ann", "FINISH 1 GBR7", at=int(time.time() * 1000), behind=None), "taken")
+        self.assertEqual(self.do("FINISH", "Ann", "FINISH 1 FRA9", at=now - 60_000, behind=None), "abandoned-since")
+
+    def test_abandoned_by_the_jury(self) -> None:
+        """The jury abandons no race, nor one of which nothing is recorded: no tap is asked about after that."""
+        late = int(time.time() * 1000) - 60_000
+        with self.assertRaises(NotSent) as why:
+            self.do("JURY", "Dee", "ABANDON 1")
+        self.assertEqual(why.exception.said, (remark("abandon-role", race=1, lines=["STRIKE"], role="jury"),))
+        self.assertEqual(self.do("FINISH", "Ann", "FINISH 1 FRA9", at=late, behind=None), "taken")
+
+    # What is asked of a correction
+
+    def test_no_correction(self) -> None:
+        """A line that names no race or no boat is no line of a correction."""
+        for line in ("STRIKE", "FINISH", "TIMES", "FINISH 1", "STRIKE 1", "BEFORE 1 FRA9", "TIE 1 FRA9", "MARK 1", "CLEAR 1"):
+            with self.assertRaises(Wrong, msg=line) as why:
+                self.correct([line], [])
+            self.assertEqual(why.exception.status, 400, line)
+
+    def correct(self, lines: list[str], agreed: list[Any], at: int = 0) -> str:
+        """What came of a correction: its outcome, or the kind of what is asked, before which nothing is noted."""
+        before = len(self.room.facts.sheet.journal), dict(self.room.register.decisions)
+        try:
+            return str(correct(self.room, {"id": new_id(), "at": at, "agreed": agreed, "lines": lines}, "Cy")["outcome"])
+        except Asked as asked:
+            self.assertEqual((len(self.room.facts.sheet.journal), self.room.register.decisions), before)
+            agreed.append(sent_back(asked.question))
+            return asked.question.kind
+
+    def test_correction_beside_a_new_place(self) -> None:
+        """A boat is moved just ahead of another, while a place is kept there: that is asked before she is struck."""
+        now = int(time.time() * 1000)
+        for line, at in (("FINISH 1 NED12", 90), ("FINISH 1 FRA9", 60), ("FINISH 1 GBR33", 60)):
+            self.do("FINISH", "Ann", line, at=now - 1000 * at, behind=None)
+        self.do("FINISH", "Bob", "? 1", at=now - 70_000, behind="NED12", by_clock=True)
+        self.assertEqual(self.seen(1), [["NED12"], ["?1"], ["FRA9"], ["GBR33"]])
+        lines, agreed = ["STRIKE 1 GBR33", "BEFORE 1 GBR33 FRA9"], list[Any]()
+        self.assertEqual([self.correct(lines, agreed, now - 50_000) for _ in range(2)], ["place-ahead", "taken"])
+        self.assertEqual(self.seen(1), [["NED12"], ["?1"], ["GBR33"], ["FRA9"]])
+
+    def test_correction_of_an_abandoned_race(self) -> None:
+        """The race was abandoned, and its boats recorded again, after the scorer began to move one."""
+        late = int(time.time() * 1000) - 60_000
+        self.abandon(1)
+        for line in ("FINISH 1 FRA9", "FINISH 1 GBR33"):
+            self.do("FINISH", "Ann", line, behind=None)
+        lines, agreed = ["STRIKE 1 GBR33", "BEFORE 1 GBR33 FRA9"], list[Any]()
+        self.assertEqual([self.correct(lines, agreed, late) for _ in range(2)], ["abandoned-since", "taken"])
+
+    def test_many_questions(self) -> None:
+        """Of each of 15 boats who hold two things it is asked whether all goes, and all can be agreed to."""
+        held = [f"{race} {sail}" for race in (1, 2, 3) for sail in ("NED12", "IRL5", "FRA9", "GBR7", "GBR33")]
+        for one in held:
+            self.do("SCORER", "Cy", f"PENALTY {one} ZFP")
+            self.do("SCORER", "Cy", f"MARK {one} RET")
+        lines, agreed = [f"CLEAR {one}" for one in held], list[Any]()
+        self.assertEqual([self.correct(lines, agreed) for _ in range(16)], ["clear-several"] * 15 + ["taken"])
+
+    # The zone
+
+    def test_zone_of_a_computer(self) -> None:
+        """A series went by the clock of a computer without a zone's name, until the settings had one: what was tapped before
+        that is by the first."""
+        self.write(self.text("cup", "series.ini").replace("zone = UTC", "zone = Pacific/Honolulu"), "cup", "series.ini")
+        folder = Folder(os.path.join(self.here, "cup"))
+        folder.set_note("zone", b"0 -\n1000 Pacific/Honolulu\n")
+        self.assertEqual([zone_of(folder, at) and str(zone_of(folder, at)) for at in (999, 1000)], [None, "Pacific/Honolulu"])
+
+    # A boat that was struck and recorded again
+
+    def test_code_that_waited(self) -> None:
+        """A code that waited on a phone, while another device struck the boat and finished her again, is asked about; one
+        whose boat only finished meanwhile isn't, nor one of the device that has struck her itself."""
+        for sail in ("GBR7", "FRA9"):
+            self.do("FINISH", "Ann", f"FINISH 1 {sail}", behind=None)
+        seen = len(self.room.facts.sheet.journal)
+        for line in ("STRIKE 1 GBR7", "FINISH 1 GBR7", "FINISH 1 NED12"):
+            self.assertEqual(self.do("FINISH", "Bob", line, behind=None), "taken")
+        self.assertEqual(self.do("FINISH", "Bob", "MARK 1 GBR7 RET", seen=seen), "taken")
+        self.assertEqual(self.do("FINISH", "Bob", "CLEAR 1 GBR7", seen=seen), "taken")
+        self.assertEqual(self.do("FINISH", "Ann", "MARK 1 NED12 OCS", seen=seen), "taken")
+        self.assertEqual(self.do("FINISH", "Ann", "MARK 1 GBR7 DNF", seen=seen), "other-since")
+        self.assertEqual(self.values, {"line": "MARK 1 GBR7 DNF", "other": "FINISH 1 GBR7"})
+        self.assertEqual(self.do("FINISH", "Ann", "MARK 1 GBR7 DNF", seen=seen, agreed=self.agreed), "taken")
+
+    # Boats that were moved past one that isn't there
+
+    def test_undone_after_a_swap(self) -> None:
+        """NED12 was struck, or a place between two boats dropped, and these are swapped. The undo asks where she comes back.
+        Without a swap, and after that of two others, nothing is asked."""
+        for race, (first, gone) in enumerate((("FINISH {} NED12", "STRIKE {} NED12"), ("? {}", "?1 {} NONE")) * 3, 1):
+            for line in ("FINISH {} GBR7", first, "FINISH {} FRA9", "FINISH {} IRL5", "FINISH {} GBR33"):
+                self.assertIn(self.do("FINISH", "Ann", line.format(race), behind=None), ("taken", "noted"))
+            id = new_id()
+            self.room.do("FINISH", "Ann", Tap.read({"id": id, "line": gone.format(race)}))
+            swapped = [("GBR7", "FRA9"), ("IRL5", "GBR33"), None][(race - 1) // 2]
+            if swapped:
+                self.scorer.correct(lines_of_swap(self.seen(race), race, *swapped))
+            name = "NED12" if "NED12" in first else "?1"
+            wanted = [["FRA9"], ["GBR7"]] if race < 3 else [["GBR7"], [name], ["FRA9"]]
+            if race < 3:
+                self.assertEqual(self.do("FINISH", "Ann", "UNDO", undoes=id), "undo")
+                self.assertEqual(self.values["line"], gone.format(race))
+                self.assertEqual(self.seen(race)[:2], wanted)
+                place = str(self.values["by"]).split()
+                self.assertEqual((place[0], place[2]), ("BEFORE", name))
+                self.assertIn(self.do("FINISH", "Ann", "UNDO", undoes=id, agreed=self.agreed), ("taken", "noted"))
+                self.assertEqual(self.seen(race)[self.seen(race).index([place[3]]) - 1], [name])
+            else:
+                self.assertIn(self.do("FINISH", "Ann", "UNDO", undoes=id), ("taken", "noted"))
+                self.assertEqual(self.seen(race)[:3], wanted)
+
+    def test_pointed_at_beside_a_new_place(self) -> None:
+        """A boat that is put ahead of another, or level with her, comes after a place was kept just ahead of that one: it is
+        asked whether she finished after that. Of an own place, or one that was shown, nothing is asked."""
+        now = int(time.time() * 1000)
+        for race, line in enumerate(("BEFORE {} GBR33 FRA9", "TIE {} GBR33 FRA9"), 1):
+            self.do("FINISH", "Ann", f"FINISH {race} NED12", at=now - 90_000, behind=None)
+            self.do("FINISH", "Bob", f"FINISH {race} FRA9", at=now - 60_000, behind=None)
+            self.assertEqual(self.do("FINISH", "Bob", f"? {race}", at=now - 70_000, behind="NED12", by_clock=True), "noted")
+            self.assertEqual(self.seen(race), [["NED12"], ["?1"], ["FRA9"]])
+            late: dict[str, Any] = {"name": "Ann", "line": line.format(race), "at": now - 50_000}
+            self.assertEqual(self.do("FINISH", **late), "place-ahead")
+            self.assertEqual(self.values, {"mark": "?1", "sail": "GBR33", "ahead": "FRA9"})
+            shown = int(time.time() * 1000) + 2_000
+            ways: list[dict[str, Any]] = [{"name": "Bob"}, {"at": shown}, {"agreed": self.agreed}]
+            for more in ways:
+                self.assertEqual(self.do("FINISH", **{**late, **more}), "taken")
+                self.assertEqual(self.seen(race)[:2], [["NED12"], ["?1"]])
+                self.do("FINISH", "Cy", f"STRIKE {race} GBR33")
+
+    # Against the clock
+
+    def test_against_the_clock(self) -> None:
+        """FRA9 was tapped at 1 s, comes after IRL5 of 60 s, and somebody puts her after all: she is no earlier than IRL5. A
+        boat of 30 s that comes then is asked about; one of 90 s isn't."""
+        def at(second: float, name: str, line: str, **more: Any) -> Any:
+            return self.do("FINISH", name, line, at=int(1_000_000 + 1000 * second), **more)
+        at(0, "Ann", "FINISH 1 NED12", behind="")
+        at(60, "Bob", "FINISH 1 IRL5", behind="NED12")
+        self.assertEqual(at(1, "Ann", "FINISH 1 FRA9", behind=None), "taken")
+        self.assertEqual(at(30, "Cy", "FINISH 1 GBR7", behind="NED12"), "others-recorded")
+        self.assertEqual(at(30, "Cy", "FINISH 1 GBR7", behind="NED12", by_clock=True), "taken")
+        self.assertEqual(at(90, "Cy", "FINISH 1 GBR33", behind="NED12"), "taken")
+        self.assertEqual(self.seen(1), [["NED12"], ["GBR7"], ["IRL5"], ["FRA9"], ["GBR33"]])
+
+    # Another race
+
+    def test_place_among_those_of_another_race(self) -> None:
+        """A place was kept while somebody chose which boats belong to another race: nothing is sent if it is between two of
+        them. One that is ahead of them all, or behind, stays."""
+        lines = ["FINISH 2 FRA9", "FINISH 2 IRL5", "STRIKE 1 FRA9", "STRIKE 1 IRL5"]
+        for line in ("FINISH 1 NED12", "FINISH 1 FRA9", "? 1", "FINISH 1 IRL5", "FINISH 1 GBR33"):
+            self.do("FINISH", "Ann", line, behind=None)
+        before = self.seen(1)
+        with self.assertRaises(NotSent) as why:
+            correct(self.room, {"id": new_id(), "agreed": [], "lines": lines}, "Cy")
+        self.assertEqual(why.exception.said, (remark("places-among", marks=["?1"], race=1),))
+        self.assertEqual((self.seen(1), self.seen(2)), (before, []))
+        for part in ([lines[0], lines[2]], [lines[1], lines[3]], ["FINISH 2 GBR33", "STRIKE 1 GBR33"]):
+            self.assertEqual(correct(self.room, {"id": new_id(), "agreed": [], "lines": part}, "Cy")["outcome"], "taken", part)
+        self.assertEqual((self.seen(1), self.seen(2)), ([["NED12"], ["?1"]], [["FRA9"], ["IRL5"], ["GBR33"]]))
+
+    def test_undo_of_a_place_by_the_jury(self) -> None:
+        """Places are the finish's and the scorer's: the jury takes none back."""
+        id = new_id()
+        self.room.do("FINISH", "Ann", Tap.read({"id": id, "line": "? 1"}))
+        with self.assertRaises(NotSent):
+            self.room.do("JURY", "Dee", Tap.read({"id": new_id(), "line": "UNDO", "undoes": id}))
+        self.assertEqual(self.seen(1), [["?1"]])
+
+
+if __name__ == "__main__":
+    unittest.main()
