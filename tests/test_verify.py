@@ -117,7 +117,7 @@ class Pages(helpers.Series):
                 ('class="m1">1</span>', 'class="m1">2</span>', "Rank: the page has '2', and not '1"),
                 ("A8.1", "A8.2", "the text"), (">Provisional<", ">Final<", "'Final' of the page has "),
                 ('helm">O. Roche', 'helm">O. Rocha', "the page has 'IRL 55 O. Rocha'"),
-                ("font: 16px", "font: 1px", "all that is seen is right, but line "),
+                ("font: 1rem", "font: 2rem", "all that is seen is right, but line "),
                 ('"1 1 SCORER ENTER GBR101"', '"1 1 SCORER ENTER GBR102"',
                  "entry 1 isn't as it was written: '1 1 SCORER ENTER GBR102'"),
                 ('"exclude": "3"', '"exclude": "4"', "the setting exclude isn't as it was written: '4'"),

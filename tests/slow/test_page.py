@@ -32,7 +32,10 @@ const named = part => part.tagName + "." + part.className + ": " + part.textCont
 SMALL = "(() => {" + TEXTS + """
 return texts.filter(part => parseFloat(getComputedStyle(part).fontSize) < 14).map(named);
 })()"""
-PALE = "(() => {" + TEXTS + """
+PALE = """(() => {
+document.getElementById("alarm").hidden = false;
+document.querySelector("tbody tr:nth-child(5)")?.classList.add("hit");
+""" + TEXTS + """
 const light = ([r, g, b]) => [r, g, b].map(value => value / 255).map(value => value <= .04045
   ? value / 12.92 : ((value + .055) / 1.055) ** 2.4).reduce((sum, value, at) =>
   sum + value * [.2126, .7152, .0722][at], 0);
@@ -47,8 +50,6 @@ function contrast(one, other) {
   const [a, b] = [light(one), light(other)].sort((a, b) => b - a);
   return (a + .05) / (b + .05);
 }
-document.getElementById("alarm").hidden = false;
-document.querySelector("tbody tr:nth-child(5)")?.classList.add("hit");
 return [...texts.map(part => [part, getComputedStyle(part).color]),
  ...[...document.querySelectorAll("input[type=search]")].map(part =>
    [part, getComputedStyle(part, "::placeholder").color])]
