@@ -324,6 +324,12 @@ class OlderJournal(Removals):
         self.assertEqual(self.opened(*self.SAILED[:5], "FINISH 2 GBR7"), ["?1"])
         self.assertEqual(self.ahead(), [{"GBR101"}])
 
+    def test_put_back_again(self) -> None:
+        """The journal that has her line comes back, or it is typed again after fewer others: she is in the place."""
+        for journal in (self.SAILED, [*self.SAILED[:4], self.SAILED[5]]):
+            self.assertEqual(self.opened(*self.SAILED[:4]), ["?1"])
+            self.assertEqual(self.opened(*journal), [])
+
     def test_as_it_was(self) -> None:
         """The journal has the line, also if she was struck or got a code since."""
         self.assertEqual(self.opened(*self.SAILED), [])

@@ -312,6 +312,19 @@ then exec sleep 60; fi\n: > {self.here}/once\nexec {helpers.PROGRAM} "$@\"""")]:
             time.tzset()
             self.assertRegex(page, rf"<time [^>]*>[^<]*, [0-9:]{{5}} {words}</time>")
 
+    def test_no_zones(self) -> None:
+        """A computer without data of time zones can't say whether a page's times are right, and doesn't say that they
+        aren't."""
+        for name, zone in ("named", "Europe/Lisbon"), ("universal", "UTC"), ("unnamed", ""):
+            with self.subTest(zone):
+                self.make(name, zone=zone)
+                self.write(self.page(name), "page.html")
+                with unittest.mock.patch.dict(os.environ, PYTHONTZPATH="/nonexistent"):
+                    said, status = helpers.run("verify", "page.html", "--program", helpers.PROGRAM, cwd=self.here)
+                self.assertEqual((said, status), (
+                    "page.html: not verified: this computer has no data of time zones (package tzdata), and the times of a "
+                    "page are in words.\n", 2))
+
     def test_pipe(self) -> None:
         """Whoever writes into a pipe is waited for; nobody is at one into which nobody writes."""
         self.write(self.page(), "page.html")
