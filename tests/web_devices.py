@@ -148,3 +148,10 @@ class Device:
 
 def new_id() -> str:
     return secrets.token_hex(16)
+
+
+def is_known(device: Device) -> bool:
+    """Whether a device is let in."""
+    status, _ = device.again().ask("GET", f"/office/{device.role}/me")
+    assert status in (200, 401), status
+    return status == 200

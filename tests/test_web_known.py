@@ -1,0 +1,167 @@
+"""Who is known: what outlives the web, and how long a device is let in."""
+from __future__ import annotations
+
+import http.client
+import json
+import os
+import socket
+import tempfile
+import unittest
+from contextlib import closing
+from unittest import mock
+
+import helpers
+from raceoffice.web.gate import Gate
+from raceoffice.web.requests import Request
+from web_devices import Device, Web, is_known
+
+# Seconds
+DAY = 86400.0
+
+
+class Again(Web):
+    """What outlives the web."""
+
+    def test_names(self) -> None:
+        """The names by which this office may be reached; --name adds one."""
+        device = self.device("finish")
+        for host, wanted in [("localhost", 200), (f"127.0.0.1:{self.port}", 200), ("[::1]:80", 200),
+                             (socket.gethostname(), 200), ("club.example", 421), ("127.0.0.1.evil.example", 421),
+                             ("127.0.0.1@evil.example", 421), ("x.localhost", 421)]:
+            self.assertEqual(device.again().ask("GET", "/office/finish/me", Host=host)[0], wanted, host)
+        self.kill()
+        self.serve("--name", "Club.Example")
+        self.assertEqual(device.again().ask("GET", "/office/finish/me", Host="club.example:8080")[0], 200)
+
+    def test_address(self) -> None:
+        """The office may be at one address of the computer alone, by an option or by series.ini, and has its name."""
+        for address, options in (("127.0.0.5", ("--address", "127.0.0.5")), ("127.0.0.6", ())):
+            self.kill()
+            if not options:
+                self.write(self.text("cup", "series.ini").replace("\naddress =", f"\naddress = {address}"), "cup", "series.ini")
+            self.serve(*options)
+            self.assertIn(f"http://{address}:{self.port}/\n", self.said())
+            with closing(http.client.HTTPConnection(address, self.port, timeout=60)) as link:
+                link.request("GET", "/office/in")
+                self.assertEqual(link.getresponse().status, 200)
+            self.assertRaises(ConnectionRefusedError, socket.create_connection, ("127.0.0.1", self.port))
+
+    def test_known_again(self) -> None:
+        """Devices and links outlive the web; --new ends those of a role."""
+        finish, jury, before = self.device("finish"), self.device("jury"), dict(self.links)
+        self.kill()
+        self.serve()
+        self.assertEqual((finish.again().ask("GET", "/office/finish/me")[0], self.links), (200, before))
+        self.kill()
+        self.serve("--new", "finish")
+        self.assertEqual(finish.again().ask("GET", "/office/finish/me")[0], 401)
+        key = before["finish"].partition(".")[2]
+        status, _ = Device(self.port, "finish").ask("POST", "/office/in", {"role": "finish", "key": key, "name": ""})
+        self.assertEqual(status, 403)
+        self.assertNotEqual(self.links["finish"], before["finish"])
+        self.assertEqual((self.links["jury"], jury.again().ask("GET", "/office/jury/me")[0]), (before["jury"], 200))
+
+    def test_new_link(self) -> None:
+        """A new link ends the old one. Its devices are put out, or stay; each can be put out alone."""
+        finish, scorer, old = self.device("finish"), self.device("scorer"), self.links["finish"]
+        said = scorer.ask("POST", "/office/scorer/key", {"role": "finish", "stay": True})[1]
+        self.assertTrue(is_known(finish))
+        status, _ = Device(self.port, "finish").ask("POST", "/office/in", {
+            "role": "finish", "key": old.partition(".")[2], "name": ""})
+        self.assertEqual(status, 403)
+        # The code is a square with corners of 7 dark places.
+        self.assertEqual({len(row) for row in said["code"]}, {len(said["code"])})
+        self.assertEqual(said["code"][0][:8], [1] * 7 + [0])
+        ben = Device(self.port, "finish").come(said["link"], "Ben")
+        shown = scorer.ask("GET", "/office/scorer/devices")[1]["devices"]
+        mark = next(device["mark"] for device in shown if device["name"] == "Ben")
+        for wrong in (mark[:4], ""):
+            scorer.ask("POST", "/office/scorer/revoke", {"mark": wrong})
+        self.assertTrue(is_known(ben))
+        scorer.ask("POST", "/office/scorer/revoke", {"mark": mark})
+        self.assertEqual((is_known(ben), is_known(finish)), (False, True))
+        scorer.ask("POST", "/office/scorer/key", {"role": "finish"})
+        self.assertEqual((is_known(finish), is_known(scorer)), (False, True))
+        scorer.ask("POST", "/office/scorer/leave", {})
+        self.assertFalse(is_known(scorer))
+
+    def test_news_ends(self) -> None:
+        """Who is put out gets no more news: the stream ends at once. That of others goes on."""
+        finish, jury, scorer = self.device("finish"), self.device("jury"), self.device("scorer")
+        finish.wait("/office/finish/live")
+        jury.wait("/office/jury/live")
+        for device in (finish, jury):
+            helpers.until("news", lambda: device.news.readline().startswith(b"data: "))
+        shown = scorer.ask("GET", "/office/scorer/devices")[1]["devices"]
+        mark = next(device["mark"] for device in shown if device["role"] == "FINISH")
+        scorer.ask("POST", "/office/scorer/revoke", {"mark": mark})
+        helpers.until("the end of the news", lambda: finish.news.readline() == b"")
+        self.assertEqual(finish.ask("GET", "/office/finish/live")[0], 401)
+        scorer.tap("FINISH 1 GBR7")
+        helpers.until("news of the jury", lambda: jury.news.readline().startswith(b'data: {'))
+
+    def test_one_web(self) -> None:
+        """A second web doesn't serve the class."""
+        said, status = helpers.run("serve", "cup", "--http", str(helpers.free_port(self)), cwd=self.here)
+        self.assertIn("is served to browsers already", said)
+        self.assertEqual(status, 1)
+
+
+class Ages(unittest.TestCase):
+    """How long a device is known: 14 days, whatever the computer's clock is set to."""
+
+    def setUp(self) -> None:
+        holder = tempfile.TemporaryDirectory()
+        self.addCleanup(holder.cleanup)
+        self.uptime, self.clock, self.boot = 5000.0, 1.8e9, "one"
+        for name, call in (("raceoffice.system.uptime", lambda: self.uptime), ("raceoffice.system.boot", lambda: self.boot),
+                           ("time.time", lambda: self.clock)):
+            patch = mock.patch(name, call)
+            patch.start()
+            self.addCleanup(patch.stop)
+        self.path = os.path.join(holder.name, "web.json")
+        self.gate = Gate(self.path)
+        key = self.gate.new_key("FINISH")
+        cookie, _ = self.gate.enter(Request("POST", "/", {}, "127.0.0.1"), "FINISH", key, "Ann")
+        self.request = Request("GET", "/", {"cookie": cookie.partition(";")[0]}, "127.0.0.1")
+
+    def known(self) -> list[bool]:
+        """Whether the device is known to the web, and to one that is started now."""
+        return [gate.known(self.request, "FINISH") is not None for gate in (self.gate, Gate(self.path))]
+
+    def test_clock_set(self) -> None:
+        """A clock that is set puts nobody out, and makes nobody younger."""
+        for days in (15, -15, -4000, 8000):
+            self.clock += days * DAY
+            self.assertEqual(self.known(), [True, True], days)
+        self.uptime += 14 * DAY - 1
+        self.assertEqual(self.known(), [True, True])
+        self.clock -= 30 * DAY
+        self.uptime += 2
+        self.assertEqual(self.known(), [False, False])
+
+    def test_started_again(self) -> None:
+        """Since the computer was started again only its clock says how long it was off; a clock that was set back then
+        says nothing."""
+        self.uptime += 3 * DAY
+        self.gate.device(self.request, "FINISH")
+        self.gate.write()
+        self.uptime, self.boot = 20.0, "two"
+        for days, is_let_in in ((-30, True), (30, True), (10, True), (2, False)):
+            self.clock += days * DAY
+            self.assertEqual(self.known()[1], is_let_in, days)
+
+    def test_older_file(self) -> None:
+        """A file of an older package has the ages by the computer's clock."""
+        with open(self.path, encoding="utf-8") as file:
+            held = json.load(file)
+        del held["clock"]
+        with open(self.path, "w", encoding="utf-8") as file:
+            json.dump(held, file)
+        self.assertEqual(self.known()[1], True)
+        self.clock += 15 * DAY
+        self.assertEqual(self.known()[1], False)
+
+
+if __name__ == "__main__":
+    unittest.main()
