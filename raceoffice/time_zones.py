@@ -32,6 +32,11 @@ def is_name(text: str) -> bool:
         return False
 
 
+def are_known() -> bool:
+    """Whether this computer has data of time zones: without any, no zone has a name."""
+    return is_name("UTC")
+
+
 @functools.cache
 def all_zones() -> tuple[zoneinfo.ZoneInfo, ...]:
     return tuple(zoneinfo.ZoneInfo(name) for name in sorted(zoneinfo.available_timezones()) if is_name(name))

@@ -43,7 +43,7 @@ ALLOWED: dict[str, dict[str, str]] = {
     "table": {**MARK, "aria-labelledby": IDS}, "caption": {**MARK, "id": IDS}, "thead": {}, "tbody": {},
     "tr": {"id": IDS, "data-find": FREE}, "td": MARK, "th": CELL,
     "script": {"type": "application/json", "id": "proof"},
-    "svg": {"width": NUMBER, "height": NUMBER, "viewbox": "0 0 [0-9]+ [0-9]+", "role": "img",
+    "svg": {"width": "[0-9.]{1,8}rem", "height": "[0-9.]{1,8}rem", "viewbox": "0 0 [0-9]+ [0-9]+", "role": "img",
             "aria-label": "Chart: the rank of .* boats after each race. .*"},
     "g": MARK, "polyline": {"points": "[0-9 ,]+", "stroke-dasharray": "[0-9 ]+"},
     "circle": {**MARK, "cx": NUMBER, "cy": NUMBER, "r": "4"},

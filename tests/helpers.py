@@ -1,6 +1,7 @@
 """What the checks share: the program, offices and windows to try the package with."""
 from __future__ import annotations
 
+import codecs
 import contextlib
 import fcntl
 import os
@@ -155,6 +156,8 @@ class Terminal:
             preexec_fn=own, env={**os.environ, "TERM": "dumb", "PYTHONIOENCODING": "utf-8", **environment})
         os.close(slave)
         self.text, self.is_at_end = "", False
+        # A sign may come in two parts.
+        self.decoder = codecs.getincrementaldecoder("utf-8")("replace")
 
     def read(self, wanted: str, patience: float = PATIENCE) -> str:
         """What is printed up to a text, which a regular expression names."""
@@ -174,7 +177,7 @@ class Terminal:
             data = os.read(self.master, 65536)
         except OSError:
             data = b""
-        self.text += data.decode("utf-8", "replace")
+        self.text += self.decoder.decode(data, not data)
         self.is_at_end = not data
         return bool(data)
 

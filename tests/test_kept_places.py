@@ -301,6 +301,51 @@ class SaidToBeHer(Removals):
         self.assertEqual(self.marks(), (["4?"], ["4?"]))
 
 
+class OlderJournal(Removals):
+    """A place is kept behind GBR 101, and said to be GBR 7, who was struck before; then journal.txt is another."""
+    SAILED = ["ENTER GBR101", "ENTER GBR7", "FINISH 1 GBR7", "STRIKE 1 GBR7", "FINISH 1 GBR101", "FINISH 1 GBR7"]
+
+    def setUp(self) -> None:
+        super().setUp()
+        self.put(self.SAILED[:5])
+        self.places.keep(Race(1, [["GBR101"]]), "", 5)
+        waiting = self.places.read().waiting.all[0]
+        self.places.note_sent(waiting, self.SAILED[5], 5, None)
+        self.places.note_answer(waiting, self.SAILED[5], "OK 6")
+
+    def opened(self, *entries: str) -> list[str]:
+        """The places that are kept once an office was opened with these entries."""
+        self.put([*entries])
+        Backups(self.folder).keep_lost()
+        return history_of(self.folder).waiting.marks(1)
+
+    def test_without_her_line(self) -> None:
+        """She isn't in the order: the place is kept where it was."""
+        self.assertEqual(self.opened(*self.SAILED[:5], "FINISH 2 GBR7"), ["?1"])
+        self.assertEqual(self.ahead(), [{"GBR101"}])
+
+    def test_put_back_again(self) -> None:
+        """The journal that has her line comes back, or it is typed again after fewer others: she is in the place."""
+        for journal in (self.SAILED, [*self.SAILED[:4], self.SAILED[5]]):
+            self.assertEqual(self.opened(*self.SAILED[:4]), ["?1"])
+            self.assertEqual(self.opened(*journal), [])
+
+    def test_as_it_was(self) -> None:
+        """The journal has the line, also if she was struck or got a code since."""
+        self.assertEqual(self.opened(*self.SAILED), [])
+        for more in ("STRIKE 1 GBR7", "MARK 1 GBR7 DNF"):
+            self.assertEqual(self.opened(*self.SAILED, more), [])
+
+    def test_in_the_order(self) -> None:
+        """Somebody has taken lines out by hand, so that hers has another number, or has put her elsewhere."""
+        self.assertEqual(self.opened(*self.SAILED[:2], *self.SAILED[4:]), [])
+        self.assertEqual(self.opened(*self.SAILED[:5], "BEFORE 1 GBR7 GBR101"), [])
+
+    def test_empty(self) -> None:
+        """A journal without entries says nothing of her."""
+        self.assertEqual(self.opened(), [])
+
+
 class Files(helpers.Series):
     def setUp(self) -> None:
         super().setUp()

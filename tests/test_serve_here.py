@@ -76,6 +76,21 @@ class Here(helpers.Series):
         window.press()
         window.rest()
 
+    def test_served_already(self) -> None:
+        """Where a series is served already is said before anything is asked, also if the series that has the links is final by
+        now, and before it is said that the port is taken."""
+        port = str(helpers.free_port(self))
+        first = self.window("serve", "fleet", "cup", "--http", port)
+        first.read(r"Ctrl-C closes the office\.")
+        self.write(self.text("fleet", "series.ini").replace("state = provisional", "state = final"), "fleet", "series.ini")
+        for words in list[list[str]](([], ["cup"])):
+            window = self.window("serve", *words, "--http", port)
+            said = window.read(r"\n$|\] $")
+            self.assertRegex(said, rf"^\S*cup is served to browsers already, at http://\S+:{port}/\.")
+            self.assertEqual(window.rest()[1], 1)
+        first.press()
+        first.rest()
+
     def test_no(self) -> None:
         """Otherwise the scorer's page makes a series."""
         window = self.asked()

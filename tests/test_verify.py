@@ -117,7 +117,7 @@ class Pages(helpers.Series):
                 ('class="m1">1</span>', 'class="m1">2</span>', "Rank: the page has '2', and not '1"),
                 ("A8.1", "A8.2", "the text"), (">Provisional<", ">Final<", "'Final' of the page has "),
                 ('helm">O. Roche', 'helm">O. Rocha', "the page has 'IRL 55 O. Rocha'"),
-                ("font: 16px", "font: 1px", "all that is seen is right, but line "),
+                ("font: 1rem", "font: 2rem", "all that is seen is right, but line "),
                 ('"1 1 SCORER ENTER GBR101"', '"1 1 SCORER ENTER GBR102"',
                  "entry 1 isn't as it was written: '1 1 SCORER ENTER GBR102'"),
                 ('"exclude": "3"', '"exclude": "4"', "the setting exclude isn't as it was written: '4'"),
@@ -311,6 +311,19 @@ then exec sleep 60; fi\n: > {self.here}/once\nexec {helpers.PROGRAM} "$@\"""")]:
                 self.verifier.verified(page)
             time.tzset()
             self.assertRegex(page, rf"<time [^>]*>[^<]*, [0-9:]{{5}} {words}</time>")
+
+    def test_no_zones(self) -> None:
+        """A computer without data of time zones can't say whether a page's times are right, and doesn't say that they
+        aren't."""
+        for name, zone in ("named", "Europe/Lisbon"), ("universal", "UTC"), ("unnamed", ""):
+            with self.subTest(zone):
+                self.make(name, zone=zone)
+                self.write(self.page(name), "page.html")
+                with unittest.mock.patch.dict(os.environ, PYTHONTZPATH="/nonexistent"):
+                    said, status = helpers.run("verify", "page.html", "--program", helpers.PROGRAM, cwd=self.here)
+                self.assertEqual((said, status), (
+                    "page.html: not verified: this computer has no data of time zones (package tzdata), and the times of a "
+                    "page are in words.\n", 2))
 
     def test_pipe(self) -> None:
         """Whoever writes into a pipe is waited for; nobody is at one into which nobody writes."""

@@ -26,10 +26,6 @@ from raceoffice.web.web_office import WebOffice
 from web_devices import BOATS, READY, Device, Web, list_of, new_id
 
 LINE = "/office/finish/line/cup"
-# What writes beside lines, by the role that may.
-WRITING = {"jury": ("ruling/cup", "decide/cup"),
-           "scorer": ("correct/cup", "remove/cup", "key", "revoke", "open/cup", "close/cup", "list", "settings", "new", "rules/cup", "save/cup", "reopen/cup",
-                      "sheet/cup", "listed/cup", "second/cup", "serve")}
 # Seconds
 DAY = 86400.0
 RACES, SOURCES = iter(range(1, 41)), iter(range(2, 200))
@@ -111,22 +107,6 @@ class Attacks(unittest.TestCase):
         self.assertEqual(self.status(self.finish, method="GET"), 404)
         self.assertEqual(self.status(self.finish, method="PUT", body=self.tap), 405)
         self.assertEqual(self.status(self.finish, "/", self.tap), 405)
-
-    def test_each_address(self) -> None:
-        """Each address that writes, or shows what only one role sees, is one role's, and needs what a tap needs."""
-        devices = {"finish": self.finish, "scorer": self.scorer, "jury": self.device("jury")}
-        for role, name in [(role, name) for role, names in WRITING.items() for name in names]:
-            device, path = devices[role], f"/office/{role}/{name}"
-            for wanted, fields in [(403, {"Origin": "http://evil.example"}), (403, {"X_Token": ""}), (401, {"Cookie": ""}),
-                                   (421, {"Host": "evil.example"})]:
-                self.assertEqual(self.status(device, path, {}, **fields), wanted, (path, fields))
-            for other in set(devices) - {role}:
-                self.assertEqual(self.status(devices[other], path, {}), 401, (path, other))
-                if name not in WRITING.get(other, ()):
-                    own = f"/office/{other}/{name}"
-                    self.assertEqual(self.status(devices[other], own, {}), 404, own)
-                    self.assertEqual(self.status(devices[other], own, method="GET"), 404, own)
-        self.assertEqual(self.journal(), [])
 
     def test_odd_taps(self) -> None:
         """What is no tap is answered so, and nothing of it is sent."""

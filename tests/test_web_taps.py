@@ -228,30 +228,64 @@ OK 13
 class PutBack(Web):
     def test_lost(self) -> None:
         """An older journal.txt was put back: a device that sends again what that lacks isn't told that it was taken, until
-        somebody has typed the line again. A boat who was taken out stays as she was answered."""
-        finish, scorer, lost, out = self.device("finish"), self.device("scorer"), new_id(), new_id()
+        somebody has typed the line again. A boat who was taken out stays as she was answered, until she is entered again."""
+        finish, scorer, lost, out, entered = self.device("finish"), self.device("scorer"), new_id(), new_id(), new_id()
         asked = scorer.tap("ENTER USA 4")[1]["question"]
         self.assertEqual(scorer.tap("ENTER USA 4", agreed=[asked])[1]["outcome"], "taken")
         for line, id in ((f"FINISH 1 {SAILS[0]}", new_id()), ("FINISH 1 USA4", out)):
             self.assertEqual(finish.tap(line, id)[1]["outcome"], "taken", line)
         self.agree(scorer, "remove", sail="USA 4")
         self.assertEqual(finish.tap("FINISH 1 USA4", out)[1]["outcome"], "taken")
+        self.assertEqual(scorer.tap("ENTER USA 4", agreed=[asked])[1]["outcome"], "taken")
         # She was recorded before, and struck: that line is another one.
         for line in (f"FINISH 1 {SAILS[1]}", f"STRIKE 1 {SAILS[1]}"):
             self.assertEqual(finish.tap(line)[1]["outcome"], "taken", line)
         older = self.text("cup", "journal.txt")
         self.assertEqual(finish.tap(f"FINISH 1 {SAILS[1]}", lost)[1]["outcome"], "taken")
+        self.assertEqual(finish.tap("FINISH 2 USA4", entered)[1]["outcome"], "taken")
         self.agree(scorer, "close")
         self.write(older, "cup", "journal.txt")
+        # While the office is away nobody knows what its journal will have, also if the web has only just come.
+        self.assertEqual(finish.tap(f"FINISH 1 {SAILS[1]}", lost)[0], 503)
+        self.close()
+        self.serve()
+        finish, scorer = finish.again(), scorer.again()
+        self.assertEqual(finish.tap(f"FINISH 1 {SAILS[1]}", lost)[0], 503)
         self.agree(scorer, "open")
         helpers.until("the office", lambda: not scorer.state()["trouble"])
         self.assertEqual(finish.tap("FINISH 1 USA4", out)[1]["outcome"], "taken")
-        status, said = finish.tap(f"FINISH 1 {SAILS[1]}", lost)
-        self.assertEqual((status, said["said"][0]["kind"], said["said"][0]["values"]),
-                         (422, "undo-gone", {"line": f"FINISH 1 {SAILS[1]}"}), said)
+        for line, id in ((f"FINISH 1 {SAILS[1]}", lost), ("FINISH 2 USA4", entered)):
+            status, said = finish.tap(line, id)
+            self.assertEqual((status, said["said"][0]["kind"], said["said"][0]["values"]), (422, "undo-gone", {"line": line}))
         self.assertEqual(self.journal(), [f"FINISH FINISH 1 {SAILS[0]}", f"FINISH FINISH 1 {SAILS[1]}", f"FINISH STRIKE 1 {SAILS[1]}"])
         self.assertEqual(scorer.tap(f"FINISH 1 {SAILS[1]}")[1]["outcome"], "taken")
         self.assertEqual(finish.tap(f"FINISH 1 {SAILS[1]}", lost)[1]["outcome"], "taken")
+
+    def test_place(self) -> None:
+        """An older journal.txt lacks the line by which a finisher without a sail came to be a boat: her place is kept
+        again. That of a boat who was struck isn't."""
+        finish, scorer = self.device("finish"), self.device("scorer")
+
+        def taken(*lines: str) -> None:
+            for line in lines:
+                self.assertIn(finish.tap(line)[1]["outcome"], ("taken", "noted"), line)
+
+        def opened_again(journal: str, order: list[list[str]], *kept: tuple[str, int]) -> None:
+            self.agree(scorer, "close")
+            self.write(journal, "cup", "journal.txt")
+            self.agree(scorer, "open")
+            helpers.until("the office", lambda: not scorer.state()["trouble"])
+            helpers.until("the order", lambda: shown(scorer.state()["races"]["1"]) == (order, [*kept]))
+
+        taken(f"FINISH 1 {SAILS[0]}", "? 1")
+        older = self.text("cup", "journal.txt")
+        taken(f"?1 1 {SAILS[1]}", f"FINISH 1 {SAILS[2]}")
+        opened_again(older, [[SAILS[0]]], ("?1", 1))
+        taken(f"FINISH 1 {SAILS[2]}", f"?1 1 {SAILS[1]}")
+        self.assertEqual(self.journal()[-1], f"FINISH BEFORE 1 {SAILS[1]} {SAILS[2]}")
+        taken(f"STRIKE 1 {SAILS[1]}")
+        opened_again(self.text("cup", "journal.txt"), [[SAILS[0]], [SAILS[2]]])
+        self.assertEqual(self.said().count("Kept without a sail: ?1 in race 1."), 1)
 
     def agree(self, scorer: Device, what: str, **values: str) -> None:
         """Has something done with the office, and answers by yes what is asked before."""
@@ -634,6 +668,11 @@ class Crashes(Web):
                 self.serve()
             else:
                 self.kill_program()
+
+
+def shown(race: Any) -> tuple[list[list[str]], list[tuple[str, int]]]:
+    """The order of a race, and the places that are kept there, each with how many groups are ahead of it."""
+    return race["order"], [(one["mark"], one["after"]) for one in race["unread"]]
 
 
 def tapped(tap: tuple[Device, str]) -> tuple[int, Any]:

@@ -32,13 +32,14 @@ import os
 import time
 
 from raceoffice.commands.board import address, port
-from raceoffice.errors import Trouble
+from raceoffice.errors import Served, Trouble
 from raceoffice.exit_status import status_of
 from raceoffice.files import PRIVATE
 from raceoffice.series import settings
 from raceoffice.series.folder import Folder
 from raceoffice.terminal import question, sentence
 from raceoffice.web.gate import DEVICES_FILE, Gate
+from raceoffice.web.room import held_alone
 from raceoffice.web.serving import Asked, serve
 from raceoffice.wording import joined
 
@@ -107,10 +108,24 @@ def take_over_devices(name: str) -> None:
         links.move(devices_of(name))
 
 
+def need_unserved(name: str) -> None:
+    """Says where a series is served already, if it is. What else is wrong with it is said when it is opened."""
+    try:
+        os.close(held_alone(Folder(name)))
+    except Served:
+        raise
+    except Trouble:
+        pass
+
+
 def folders_of(asked: argparse.Namespace) -> list[str]:
-    """The folders that are named or, if none is, those of this one that somebody wants opened."""
-    if asked.folder or not (found := series_here()):
-        return list(asked.folder)
+    """The folders that are named or, if none is, those of this one that somebody wants opened. Nothing is asked if the first
+    is served already."""
+    found = list(asked.folder) or series_here()
+    if found:
+        need_unserved(found[0])
+    if asked.folder or not found:
+        return found
     if not question(f"Open {joined(found)}? The results aren't final yet.", yes=True):
         return []
     take_over_devices(found[0])

@@ -10,10 +10,11 @@ from raceoffice.remarks import remark
 from raceoffice.series import copies
 from raceoffice.series.continuity import first_entries, own_entries, parts_of
 from raceoffice.series.folder import VERSION, Folder
-from raceoffice.series.kept_places import Places, command_of
+from raceoffice.series.kept_places import History, Places, command_of
 from raceoffice.series.older_copy import is_from_before
 from raceoffice.series.run_program import replayed
 from raceoffice.series.second_folder import Second, copy_of, places_copy_of
+from raceoffice.series.unknown_finishers import Unread
 from raceoffice.terminal import sentence
 
 
@@ -94,6 +95,17 @@ class Backups:
         of it."""
         with contextlib.suppress(Trouble, NotSent):
             self.places.note_removals([command_of(line) for line in self.folder.kept()], own_entries(self.folder))
+
+    def keep_lost(self) -> None:
+        """Keeps the places again that were said to be boats whose lines journal.txt lacks."""
+        with contextlib.suppress(Trouble, NotSent):
+            # These notes are of lines that the journal had before it is read.
+            data = self.places.data()
+            journal = [command_of(line) for line in self.folder.kept()]
+            for end in History.read(data, journal).lost():
+                self.places.keep_again(*end.key)
+                # As a line without an answer: she is in her place if it is typed again, or the journal comes back.
+                self.places.note_sent(Unread(end.place, end.race, frozenset()), end.line, min(len(journal), end.entry - 1), None)
 
     def guard_places(self) -> str:
         """Puts places in again that somebody has taken out of their file; what is said of that, or nothing.

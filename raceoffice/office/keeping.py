@@ -73,6 +73,7 @@ class Keeping:
     def begin(self) -> None:
         """Copies the journal for the first time, and notes that the office is open."""
         self.backups.note_removals()
+        self.backups.keep_lost()
         self.save(self.service.link.sheet())
         self.keep_dated()
 

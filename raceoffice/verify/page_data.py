@@ -70,6 +70,7 @@ def found_in(page: str) -> Kept:
     for carried, written in zip(kept.series, whole["marks"]):
         compare_marks(carried, written)
     compare_seal(text, whole["seal"])
+    need_zones()
     if wrong := wrong_form(kept):
         raise ForeignPage(wrong)
     need_size(kept)
@@ -200,6 +201,12 @@ def carried_of(series: Mapping[str, object], stamp: Mapping[str, object]) -> Car
     parts = {name: tuple(value) if isinstance(value, list) else value for name, value in series.items()}
     parts["boats"] = tuple(map(tuple, parts["boats"]))  # type: ignore
     return Carried(**parts, stamp=Stamp(**stamp))  # type: ignore
+
+
+def need_zones() -> None:
+    """Unsure if this computer knows no time zone: then it can't tell whether a page's times in words are right."""
+    if not time_zones.are_known():
+        raise Unsure("this computer has no data of time zones (package tzdata), and the times of a page are in words")
 
 
 def need_size(kept: Kept) -> None:

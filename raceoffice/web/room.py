@@ -3,6 +3,7 @@ from __future__ import annotations
 
 import contextlib
 import copy
+import itertools
 import os
 import re
 import secrets
@@ -258,7 +259,8 @@ class Room:
         if not self.lock.acquire(timeout=PATIENCE):
             raise Trouble(remark("line-before"))
         try:
-            if done := self.done(tap):
+            # While the office is away, the journal that it will have may lack what was answered.
+            if not self.trouble and (done := self.done(tap)):
                 return done
             self.wait_for_late_answers()
             session = self.session(role)
@@ -314,7 +316,7 @@ class Room:
 
     def is_lost(self, sent: Sent) -> bool:
         """Whether the journal of the open office lacks the line of a tap, as after an older journal was put back, and nobody
-        has typed it again. That of a boat who was taken out is meant to be gone."""
+        has typed it again. That of a boat who was taken out since is meant to be gone."""
         line, journal = sent.own.split(maxsplit=3)[3] if sent.own else "", self.facts.sheet.journal
         if self.trouble or not line or sent.own in journal:
             return False
@@ -322,7 +324,8 @@ class Room:
             return False
         command, *rest = line.split()
         sail = "".join(rest[:1] if command == "ENTER" else rest[1:2])
-        return not any(entry.line == f"removed {sail}" for entry in self.folder.logged())
+        since = itertools.takewhile(lambda entry: as_kept(entry.line) != line, reversed(self.folder.logged()))
+        return not any(entry.line == f"removed {sail}" for entry in since)
 
     def settle(self) -> None:
         """Notes what came of each tap that was begun and never ended, as the journal has it now."""

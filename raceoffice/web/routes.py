@@ -285,6 +285,7 @@ class Routes:
             case ["decide", name] if role == "JURY":
                 return self.decide(request, device, self.room(name))
             case ["leave"]:
+                request.values()
                 self.gate.revoke(device.mark)
                 return reply_of({})
         if role == "SCORER":

@@ -1,12 +1,16 @@
 """The board's pages in Chromium: on a phone, on a desk, on paper, and when they are out of date."""
 from __future__ import annotations
 
+import functools
+import http.server
+import json
 import os
 import random
 import re
 import shutil
 import signal
 import subprocess
+import threading
 import unittest
 
 import browser
@@ -32,7 +36,10 @@ const named = part => part.tagName + "." + part.className + ": " + part.textCont
 SMALL = "(() => {" + TEXTS + """
 return texts.filter(part => parseFloat(getComputedStyle(part).fontSize) < 14).map(named);
 })()"""
-PALE = "(() => {" + TEXTS + """
+PALE = """(() => {
+document.getElementById("alarm").hidden = false;
+document.querySelector("tbody tr:nth-child(5)")?.classList.add("hit");
+""" + TEXTS + """
 const light = ([r, g, b]) => [r, g, b].map(value => value / 255).map(value => value <= .04045
   ? value / 12.92 : ((value + .055) / 1.055) ** 2.4).reduce((sum, value, at) =>
   sum + value * [.2126, .7152, .0722][at], 0);
@@ -47,8 +54,6 @@ function contrast(one, other) {
   const [a, b] = [light(one), light(other)].sort((a, b) => b - a);
   return (a + .05) / (b + .05);
 }
-document.getElementById("alarm").hidden = false;
-document.querySelector("tbody tr:nth-child(5)")?.classList.add("hit");
 return [...texts.map(part => [part, getComputedStyle(part).color]),
  ...[...document.querySelectorAll("input[type=search]")].map(part =>
    [part, getComputedStyle(part, "::placeholder").color])]
@@ -548,6 +553,28 @@ class Pages(helpers.Series):
             self.assertFalse(self.browser.run(IS_RED))
             self.assertIn("Thu 1 Jan", self.browser.run("once.innerText").replace(",", ""))
             self.assertIn("not kept up to date", self.browser.run("once.innerText"))
+
+    def test_once_on_a_server(self) -> None:
+        """A page that was made once shows what its file says, whatever else lies on its server."""
+        self.made("cup")
+        shown = self.text("out", "cup", "index.html")
+        self.write(json.dumps({"version": "0", "checked": "2026-01-01T00:00:00+00:00", "office": "once",
+                               "page": shown.replace("GBR", "GER")}), "out", "cup", "now.json")
+        asked: list[str] = []
+
+        class Files(http.server.SimpleHTTPRequestHandler):
+            def log_message(self, *words: object) -> None:
+                asked.append(self.path)
+
+        with http.server.ThreadingHTTPServer(("127.0.0.1", 0), functools.partial(
+                Files, directory=os.path.join(self.here, "out"))) as server:
+            threading.Thread(target=server.serve_forever).start()
+            self.addCleanup(server.shutdown)
+            self.browser.open(f"http://127.0.0.1:{server.server_port}/cup/index.html")
+            helpers.until("the time of making", lambda: self.browser.run("once.innerText"), 15)
+            self.browser.run("document.dispatchEvent(new Event('visibilitychange'))")
+            self.assertNotIn("/cup/now.json", asked)
+            self.assertNotIn("GER", self.browser.run("document.querySelector('main').innerText"))
 
 
 if __name__ == "__main__":

@@ -370,7 +370,8 @@ class Two(WebTrial):
         self.need_no_faults()
 
     def test_asked_of_each(self) -> None:
-        """A boat of each class has this sail: a question names the class, and her row in the other class doesn't open it."""
+        """A boat of each class has this sail: a question names the class, and her row in the other class doesn't open it.
+        A question that is put off comes again after six seconds."""
         line = self.line()
         ann, ben = self.phone_of_both(port=line.own), self.phone_of_both()
         ann.tap("GBR33", "cup")
@@ -381,10 +382,15 @@ class Two(WebTrial):
         self.settle(ben)
         line.mend()
         ann.until("document.querySelector('#link').dataset.state === 'sending' || !!document.querySelector('dialog[open]')")
-        ann.until("document.querySelector('dialog[open] h2')?.textContent === 'Where did GBR 33 Folkboats finish?'", 30)
+        title = "document.querySelector('dialog[open] h2')?.textContent"
+        ann.until(f"{title} === 'Where did GBR 33 Folkboats finish?'", 30)
+        ann.run("""window.putOffAt = performance.now();
+            document.querySelector("dialog[open]").end("");
+            document.querySelector("#list li[data-key='cup GBR33'] button.finisher").click();""")
+        ann.until(f"{title} === 'GBR 33 Autumn Cup'", 30)
         ann.run("document.querySelector('dialog[open]').end('')")
-        ann.click("#list li[data-key='cup GBR33'] button.finisher")
-        ann.until("document.querySelector('dialog[open] h2')?.textContent === 'GBR 33 Autumn Cup'", 30)
+        asked = f"{title} === 'Where did GBR 33 Folkboats finish?' && performance.now() - window.putOffAt"
+        self.assertGreater(ann.until(asked, 30), 5900)
         self.assertEqual(self.journal("cup"), finishes("GBR33"))
 
     def test_taps_of_a_class_that_has_gone(self) -> None:

@@ -7,11 +7,12 @@ from __future__ import annotations
 
 from raceoffice.program.standing import Row
 from raceoffice.results.html.markup import NOTHING, Markup, separated, tag, together
+from raceoffice.results.html.page import rem
 from raceoffice.results.snapshot import Snapshot
 
 # How many boats have a line, and the last rank that has a height of its own.
 LINES, DEEPEST = 8, 16
-# Pixels: between ranks, above the first rank, and left and right of the lines.
+# Pixels with letters of the usual size: between ranks, above the first rank, and left and right of the lines.
 HIGH, ABOVE, LEFT, RIGHT = 20, 34, 40, 118
 # The width that a phone has for the lines, the least and the most between two races, and the width of
 # a race's number.
@@ -89,7 +90,7 @@ def picture(view: Snapshot) -> Markup:
     lines = [line(at, row, found[row.sail], deepest, view.boat(row.sail).sail)
              for at, row in enumerate(rows)]
     which = f"the first {len(rows)} boats" if len(view.standing.rows) > len(rows) else "all boats"
-    drawn = tag("svg", axes(view, deepest, worst > deepest), *lines, width=wide, height=high,
+    drawn = tag("svg", axes(view, deepest, worst > deepest), *lines, width=rem(wide), height=rem(high),
                 viewBox=f"0 0 {wide} {high}", role="img", aria_label=f"Chart: the rank of {which} after "
                 "each race. The table below has the same for all boats.")
     return tag("div", drawn, class_="scroll", role="region", aria_label="Chart of ranks", tabindex=0)

@@ -8,7 +8,7 @@ from collections.abc import Sequence
 from raceoffice.results.html import overall
 from raceoffice.results.html.chart import chart
 from raceoffice.results.html.markup import NOTHING, Markup, separated, tag, together
-from raceoffice.results.html.page import classes, finder, foot, framed, head
+from raceoffice.results.html.page import classes, finder, foot, framed, head, rem
 from raceoffice.results.html.sealing import block, version_of
 from raceoffice.results.snapshot import Snapshot, labels_of
 
@@ -44,7 +44,7 @@ def style(views: Sequence[Snapshot]) -> str:
                                 len(most.standing.races))
     each = "".join(overall.style(view, f".standing.class-{at}") for at, view in enumerate(views))
     wide = max(map(overall.fits, views)) + 60
-    return (f"main.results {{ --wide: {wide}px; }}\n{each}@media print {{ {paper} "
+    return (f"main.results {{ --wide: {rem(wide)}; }}\n{each}@media print {{ {paper} "
             ".standing ~ .standing { break-before: page; } }\n")
 
 

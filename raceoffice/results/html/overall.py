@@ -7,7 +7,7 @@ from raceoffice.decisions.points import words_of
 from raceoffice.program.codes import AS_DNF
 from raceoffice.program.standing import Row, Score, tie_break
 from raceoffice.results.html.markup import NOTHING, Markup, separated, tag, together
-from raceoffice.results.html.page import bar, code, finding, foot, head, key, name_heads, points, who, whole
+from raceoffice.results.html.page import bar, code, finding, foot, head, key, name_heads, points, rem, who, whole
 from raceoffice.results.html.sealing import block
 from raceoffice.results.snapshot import Snapshot
 from raceoffice.wording import TIMES, joined, one_decimal, ordinal, spans
@@ -244,7 +244,7 @@ def asides(view: Snapshot) -> list[Markup]:
 
 
 def fits(view: Snapshot) -> int:
-    """The width from which on the table needs no scrolling of its own."""
+    """The width, in pixels with letters of the usual size, from which on the table needs no scrolling of its own."""
     return max(450 + 55 * len(view.standing.races) + (64 if view.totals else 0), 736)
 
 
@@ -266,13 +266,13 @@ def style(view: Snapshot, scope: str = "main.standing") -> str:
     races, rows = len(view.standing.races), f"{scope} > .scroll"
     hidden = (f"{rows} .r:nth-child(n + {MOST_COLUMNS + 5}) {{ display: none; }}"
               if races > MOST_COLUMNS else "")
-    return f"""{scope} {{ --wide: {fits(view) + 160}px; }}
+    return f"""{scope} {{ --wide: {rem(fits(view) + 160)}; }}
 @media print {{ {hidden} }}
-@media screen and (max-width: {fits(view)}px) {{
+@media screen and (max-width: {rem(fits(view))}) {{
   {rows} {{ overflow: auto; max-height: calc(100dvh - 1rem); }}
   .alarm:not([hidden]) ~ main thead th {{ top: 0; }}
 }}
-@media screen and (min-width: 737px) and (max-width: {fits(view)}px) {{
+@media screen and (min-width: 46.01rem) and (max-width: {rem(fits(view))}) {{
   {rows} .rank, {rows} th.sail, {rows} .net {{ position: sticky; z-index: 2; }}
   {rows} thead .rank, {rows} thead th.sail, {rows} thead .net {{ z-index: 4; }}
   {rows} .rank {{ left: 0; min-width: 3.2rem; }}

@@ -39,6 +39,11 @@ def styles(text: str) -> str:
 
 # Small parts
 
+def rem(pixels: int) -> str:
+    """A length that grows with the size of text that somebody has chosen: so many pixels at the usual one."""
+    return f"{pixels / 16:g}rem"
+
+
 def points(text: str) -> Markup:
     whole, _, tenth = text.partition(".")
     return together(whole, tag("i", f".{tenth}"))

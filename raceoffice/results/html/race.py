@@ -88,7 +88,7 @@ def tables(view: Snapshot, race: Race) -> Markup:
         table(view, race, "table", "Finished", "Place", places, view.settings.handicap),
         table(view, race, "coded", "With a code", "Code", coded),
         table(view, race, "missing", "Not recorded: scored DNC" if counts else "Not recorded yet",
-              "Code" if counts else "", missing))
+              "Code", missing))
 
 
 def facts(view: Snapshot, race: Race) -> list[Markup]:

@@ -15,6 +15,7 @@ export async function ask(item) {
   else if (isWhen && done) takeMoments(asked, done);
   else if (done === "after") queue.change(item, {state: "unsent", behind: null});
   else if (done) queue.change(item, {state: "unsent", agreed: [...item.agreed, agreedOf(item.question)]});
+  else page.putOffAt = performance.now();
   if (done === "clock") goByClock(item.class);
   queue.send();
   page.redraw();

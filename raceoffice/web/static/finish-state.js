@@ -30,7 +30,7 @@ export function keep(key, value) {
 export const page = {
   classes: [], states: {}, races: kept("races", {}), rounded: kept("rounded", {}), undoable: kept("undoable", []),
   moments: keptMoments(),
-  mode: {kind: "finish"}, digits: "", link: "away", redraw: () => {}};
+  mode: {kind: "finish"}, digits: "", link: "away", putOffAt: 0, redraw: () => {}};
 
 export const queue = new Queue(item => {
   forgetIfShown(item);

@@ -92,10 +92,10 @@ function nameParts() {
   byId("races").setAttribute("aria-label", text("common.races"));
 }
 
-// A question comes over the boats once nobody has tapped for a while; the list and the sign at the top open it
-// sooner.
+// A question comes over the boats once nobody has tapped for a while, or put one off; the list and the sign at the top
+// open it sooner.
 function askWhenCalm() {
-  if (askedItem() && performance.now() - lastTapAt() > CALM) answer(askedItem());
+  if (askedItem() && performance.now() - Math.max(lastTapAt(), page.putOffAt) > CALM) answer(askedItem());
 }
 
 function keepTime() {
