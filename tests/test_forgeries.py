@@ -9,6 +9,7 @@ import os
 import random
 import re
 import time
+import tracemalloc
 import unittest
 import unittest.mock
 from typing import Any
@@ -371,6 +372,25 @@ class Forgeries(ForgedPages):
                 status, said = self.said(page + more)
                 self.assertEqual(status, 1)
                 self.assertIn("it is longer than", said)
+            status, said = self.said("\0" * (len(page.encode()) + 1))
+            self.assertEqual(status, 2)
+            self.assertIn("it is no page of results", said)
+
+    def test_line_ends(self) -> None:
+        """A page whose line ends were changed on the way is none of which something can be said."""
+        status, said = self.said(self.made["results"].replace("\n", "\r\n"))
+        self.assertEqual(status, 2)
+        self.assertIn("its line ends were changed to CR LF on the way", said)
+
+    def test_memory(self) -> None:
+        """A long file that begins as a page does isn't held line by line."""
+        page = self.made["results"]
+        tracemalloc.start()
+        self.addCleanup(tracemalloc.stop)
+        status, said = self.said(page + "ab\n" * 10_000_000)
+        self.assertEqual(status, 1)
+        self.assertIn("the page is longer than the right one", said)
+        self.assertLess(tracemalloc.get_traced_memory()[1], 300_000_000)
 
     def test_time(self) -> None:
         """What isn't a page is found out in a second, however it is written."""

@@ -9,6 +9,7 @@ from collections.abc import Mapping
 from typing import Any
 from unittest import mock
 
+import helpers
 from on_water import OnWater, lines_of_swap
 from raceoffice.errors import NotSent
 from raceoffice.remarks import remark
@@ -241,7 +242,7 @@ class AsRecorded(OnWater):
         before = int(time.time()) * 1000
         self.window_bob.send(2, "? 2")
         after = int(time.time() * 1000)
-        time.sleep(1.1)
+        helpers.next_second()
         self.at(1800, "Ann", "?1 2 GBR7")
         self.assertTrue(before <= self.shown(2)["at"]["GBR7"] <= after, self.shown(2))
         # Once she has finished again, that doesn't count any more.

@@ -80,6 +80,8 @@ def found_in(page: str) -> Kept:
 def block_of(page: str) -> str:
     """The text of the block."""
     found = page.count(START)
+    if found == 0 and START.replace("\n", "\r\n") in page:
+        raise Unsure("its line ends were changed to CR LF on the way: save the page as the file that it is")
     if found == 0:
         raise Unsure("it has no block that can be verified, so it is no page of results")
     if found > 1:

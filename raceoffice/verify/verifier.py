@@ -213,7 +213,7 @@ def compare_tables(rebuilt: Rebuilt) -> None:
 
 def first_difference(text: str, wanted: str) -> str:
     """Where a page first differs from what it has to be: a cell, a text, or else a line of its file."""
-    ours, others = text.split("\n"), wanted.split("\n")
+    ours, others = text[:len(wanted) + LONGER].split("\n"), wanted.split("\n")
     at = first_of(ours, others) or 0
     line = f"line {at + 1} of the file isn't as raceoffice writes it: {quoted(part(ours, at))}"
     if len(text) > len(wanted) + LONGER:
@@ -294,13 +294,19 @@ def text_of_page(path: str) -> str:
     except OSError as cause:
         raise Unsure(f"it can't be read: {cause.strerror}") from None
     if len(data) > LARGEST:
+        need_block(data)
         raise ForeignPage(f"it is longer than {LARGEST:,} bytes, and no page is")
     try:
         return data.decode("utf-8")
     except UnicodeDecodeError as cause:
-        if page_data.START.encode() not in data:
-            raise Unsure("it is no page of results") from None
+        need_block(data)
         raise ForeignPage(f"byte {cause.start + 1} of the file isn't UTF-8") from None
+
+
+def need_block(data: bytes) -> None:
+    """Unsure if a file has no block of a page."""
+    if page_data.START.encode() not in data:
+        raise Unsure("it is no page of results")
 
 
 @dataclass(frozen=True)
