@@ -5,6 +5,7 @@ import os
 import unittest
 
 import helpers
+import web_devices
 from devices import Device
 from web_office import WebTrial, finishes
 
@@ -81,7 +82,8 @@ class Timed(WeekTrial):
         self.write(f"[times]\nsystem = tcf\nprogram = {helpers.TIMES}\n", "cup", "times", "rules.ini")
 
     def test_moments_of_last_week(self) -> None:
-        """What a phone kept of a sail that wasn't read isn't shown in the next series, of which it keeps others."""
+        """What a phone kept of a sail that wasn't read isn't shown in the next series, nor counted among the taps that the phone
+        holds. It keeps others of that."""
         ann, rows = self.phone(), "document.querySelectorAll('#list li.unread').length"
         ann.until("!!document.querySelector('#grid .boat')")
         ann.click("#unread")
@@ -90,8 +92,15 @@ class Timed(WeekTrial):
         self.next_week(ann)
         ann.until("document.querySelectorAll('#grid .boat').length === 3")
         ann.until(f"{rows} === 0")
+        scorer = web_devices.Device(self.port, "scorer").come(self.links["scorer"], "Bea")
+
+        def held() -> list[int]:
+            shown = scorer.ask("GET", "/office/scorer/devices")[1]["devices"]
+            return [device["unsent"] for device in shown if device["role"] == "FINISH"]
+        helpers.until("a phone that holds nothing", lambda: held() == [0])
         ann.click("#unread")
         ann.until(f"{rows} === 1")
+        helpers.until("a phone that holds one", lambda: held() == [1])
         self.assertEqual(ann.texts("#list li.unread .sail"), ["?1"])
 
 

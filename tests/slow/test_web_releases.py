@@ -11,9 +11,12 @@ import browser
 from devices import Chromium, Device
 from raceoffice.web.routes import STATIC, static_files
 from stub_office import StubOffice
+from web_office import SAILS
 
 READY = "navigator.serviceWorker.ready.then(() => !!navigator.serviceWorker.controller)"
 LIVE = "document.querySelector('#link')?.dataset.state === 'live'"
+SIGN = "document.querySelector('#link').textContent"
+HELD = "Object.keys(localStorage).filter(key => key.startsWith('tap:')).length"
 # The releases of all scripts that this page has run
 RUN = "[...new Set(window.releases)].join(' ')"
 # Parts of the page that come when they are needed
@@ -106,6 +109,43 @@ class Releases(unittest.TestCase):
         self.assertEqual(self.kept(), first)
         self.phone.reload()
         self.ran("one")
+
+    def parted(self, script: str) -> Device:
+        """A phone without one part of its page, which nothing keeps; and then the office gets other files, of which that part
+        begins so and doesn't fit the others of the first ones. A tap is asked about."""
+        self.office.files = {name: file for name, file in release("one").items() if name != "finish-answers.js"}
+        self.office.line = 409, {"outcome": "asked", "question": {"kind": "another", "values": {}, "text": "Is she?"}}
+        phone = Device(self.chromium, 390, 844, touch=True)
+        phone.open(self.office.address("/office/finish/"))
+        phone.until(LIVE)
+        files = release("two")
+        for name, more in (("texts.js", "export const other = true;"), ("finish-answers.js", script)):
+            kind, data = files[name]
+            files[name] = kind, data + f"{more}\n".encode()
+        self.office.files = files
+        # A page may ask whether it is to be left only after a finger was on it.
+        phone.ask("Runtime.evaluate", expression="window.isFirst = true", userGesture=True)
+        self.assertTrue(phone.run("navigator.userActivation.hasBeenActive"))
+        phone.tap(SAILS[20])
+        return phone
+
+    def test_a_part_that_does_not_fit(self) -> None:
+        """A page whose part comes from another release loads itself again, with its tap, and shows what is asked."""
+        phone = self.parted('import {other} from "./texts.js";')
+        phone.until("document.querySelector('dialog[open]')?.textContent.includes('Is she?')")
+        self.assertFalse(phone.run("!!window.isFirst"))
+        self.assertEqual(phone.run(HELD), 1)
+
+    def test_no_part_ever_fits(self) -> None:
+        """If the office's own files don't fit each other, the page loads itself once and no more."""
+        phone = self.parted('import {none} from "./texts.js";')
+        phone.until(f"!window.isFirst && {SIGN} === 'Answer needed'")
+        self.assertFalse(phone.run("""import('/office/static/finish-state.js').then(async ({page, withPart}) => {
+            await withPart('answers', () => {});
+            return !!page.isLoading;
+        })"""))
+        phone.until("document.querySelector('#alarm').textContent === 'The office isn’t reached.'")
+        self.assertEqual(phone.run(HELD), 1)
 
 
 if __name__ == "__main__":

@@ -1,6 +1,6 @@
 'use strict';
 // What the finish page knows: its classes, which race of each it records, and what somebody is about to tap.
-import {followClock, moment, newId, now, settle} from "./office.js";
+import {comeIn, followClock, moment, newId, now, settle} from "./office.js";
 import {text, timeOfDay} from "./texts.js";
 import {isOpen, say} from "./dialogs.js";
 import {spaced} from "./sails.js";
@@ -14,7 +14,9 @@ const STALE = 3600e3;
 // How many taps can be undone
 const UNDOABLE = 12;
 const DAY = 864e5;
-const MOMENT = "moment:";
+const MOMENT = "moment:", LOADED = "loaded";
+// Milliseconds within which the page doesn't load itself a second time
+const RARELY = 6e5;
 
 export function kept(key, usual) {
   try { return JSON.parse(localStorage.getItem(key)) ?? usual; } catch { return usual; }
@@ -78,11 +80,13 @@ export function raceNow(name) {
   return found;
 }
 
-// By corrected time this device keeps the moment of a sail that wasn't read. `by` is the tap that says who she was. Those
-// of another series that had this name aren't shown.
-const momentsOf = name => page.moments.filter(one => one.class === name && one.race === page.races[name]
-  && (one.series ?? seriesOf(name)) === seriesOf(name));
 const seriesOf = name => page.states[name]?.series;
+// By corrected time this device keeps the moment of a sail that wasn't read. `by` is the tap that says who she was. Those
+// of another series that had this name aren't shown, nor counted.
+const isOfAnother = ({class: name, series}) => series && seriesOf(name) && series !== seriesOf(name);
+const momentsOf = name => page.moments.filter(one => one.class === name && one.race === page.races[name] && !isOfAnother(one));
+// How many finishers this device keeps of whom nobody has said who they were
+export const unnamedCount = () => page.moments.filter(one => !one.by && !isOfAnother(one)).length;
 
 // Each has a key of its own: another tab keeps others. An older page had one for all.
 function keptMoments() {
@@ -209,8 +213,22 @@ export const fetchParts = () => Object.values(PARTS).forEach(fetched => fetched(
 
 // Gives a part to `use`, which opens a window, if no other is open by then; or says that it isn't there.
 export async function withPart(name, use) {
-  const part = await PARTS[name]().catch(() => say(text("common.notReached"), true));
+  const part = await PARTS[name]().catch(async fault => {
+    say(text("common.notReached"), true);
+    // It came, and doesn't fit the other files of this page: the office has got another version since.
+    if (fault instanceof SyntaxError) await loadAgain();
+  });
   if (part && !isOpen()) use(part);
+}
+
+// Loads the page again, with files that fit each other, if the device has kept all taps and the office answers.
+async function loadAgain() {
+  const isKept = !queue.isFull && page.moments.every(one => kept(MOMENT + one.id));
+  const isRecent = Math.abs(Date.now() - Number(sessionStorage.getItem(LOADED))) < RARELY;
+  if (!isKept || isRecent || isOpen() || await comeIn() !== 200) return;
+  sessionStorage.setItem(LOADED, Date.now());
+  page.isLoading = true;
+  location.reload();
 }
 
 // What is wrong, in a word or two for the sign at the top

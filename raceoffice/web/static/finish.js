@@ -4,7 +4,7 @@
 import {byId, fill, tellFault} from "./elements.js";
 import {loadTexts, text} from "./texts.js";
 import {areServed, comeIn, countUnsentBy, followNews, me, now, stateFollower} from "./office.js";
-import {LATE, answer, askedItem, clock, fetchParts, forgetIfShown, isWaiting, keep, kept, page, queue} from "./finish-state.js";
+import {LATE, answer, askedItem, clock, fetchParts, forgetIfShown, isWaiting, keep, kept, page, queue, unnamedCount} from "./finish-state.js";
 import {lastTapAt} from "./finish-taps.js";
 import {drawGrid} from "./finish-grid.js";
 import {drawList} from "./finish-list.js";
@@ -117,7 +117,7 @@ async function begin() {
   nameParts();
   drawKeys();
   listenToKeys();
-  countUnsentBy(() => queue.unsent.filter(item => item.state !== "sending").length + page.moments.filter(one => !one.by).length);
+  countUnsentBy(() => queue.unsent.filter(item => item.state !== "sending").length + unnamedCount());
   page.redraw = draw;
   takeKept();
   draw();
@@ -131,7 +131,7 @@ async function begin() {
   draw();
   keepTime();
   byId("link").onclick = () => { if (askedItem()) answer(askedItem()); };
-  addEventListener("beforeunload", event => { if (queue.unsent.length) event.preventDefault(); });
+  addEventListener("beforeunload", event => { if (queue.unsent.length && !page.isLoading) event.preventDefault(); });
   stayAwake();
 }
 
