@@ -7,7 +7,7 @@ from collections.abc import Callable
 
 # What Python calls printable and yet isn't seen, or lies over its neighbours: fillers, joiners, variants
 # of signs, strokes, what encloses letters, and marks of which three are over one letter.
-UNSEEN = re.compile("[\u034f\u115f\u1160\u17b4\u17b5\u180b-\u180f\u2800\u3164\ufe00-\ufe0f\uffa0"
+UNSEEN = re.compile("[\u034f\u115f\u1160\u17b4\u17b5\u180b-\u180f\u2800\u3164\ufe00-\ufe0f\uffa0\ufffc"
                     "\U00016fe4\U0001d159\U000e0100-\U000e01ef\u0334-\u0338\u0488\u0489\u1abe\u20d0-\u20f0"
                     "\ua670-\ua672\u1cd4\u1ce2-\u1ce8\U00010a39\U00016af0-\U00016af4\U0001bc9e"
                     "\U0001d167-\U0001d169]"

@@ -342,7 +342,7 @@ class Forgeries(ForgedPages):
     def test_beware(self) -> None:
         """Signs that turn others, or that aren't seen, are said of a page that is verified."""
         for text, is_odd in [("Moss\u202e", True), ("Mo\u200bss", True), ("M\u0336oss", True),
-                             ("Mo\u3164ss", True), ("Moss\ufe0f", True), ("Mos\u0301\u0301\u0301s", True),
+                             ("Mo\u3164ss", True), ("Mo\ufffcss", True), ("Moss\ufe0f", True), ("Mos\u0301\u0301\u0301s", True),
                              ("Mo\U0001d159ss", True), ("M\ua670oss", True), ("M" + "\u1dc0" * 4, True),
                              ("\u0e01" + "\u0e49" * 4, True), ("\u0e01\u0e34\u0e49", False),
                              ("Mo\U0001bc9dss", True), ("Mo\u2d7fss", True),

@@ -49,6 +49,11 @@ class Outputs(ForgedPages):
             self.assertEqual(end[0], f"{self.path}: verified.")
             self.assertTrue(any(line.startswith("   Seal ") for line in end[1:]), end)
 
+    def test_columns(self) -> None:
+        """The most columns that a terminal gives: two to wide signs, to those that some call wide, and to hexagrams."""
+        for text, columns in ("Moss", 4), ("名取", 4), ("±5", 3), ("\u4dc0\u4dff", 4):
+            self.assertEqual(own_words.columns_of(text), columns, text)
+
     def test_decisions(self) -> None:
         """Each word of each kind of decision."""
         page = self.pages()["results"]

@@ -26,7 +26,7 @@ from raceoffice.program.standing import Score
 from raceoffice.results import exports
 from raceoffice.results.html import notice_board, overall
 from raceoffice.results.html.markup import Markup, tag
-from raceoffice.results.html.page import confirmed
+from raceoffice.results.html.page import confirmed, styles
 from raceoffice.results.snapshot import Snapshot
 from raceoffice.verify import page_data, verifier
 
@@ -311,6 +311,11 @@ then exec sleep 60; fi\n: > {self.here}/once\nexec {helpers.PROGRAM} "$@\"""")]:
                 self.verifier.verified(page)
             time.tzset()
             self.assertRegex(page, rf"<time [^>]*>[^<]*, [0-9:]{{5}} {words}</time>")
+
+    def test_styles(self) -> None:
+        """A style sheet has the same title on each computer, whatever letters its Python knows: those of ASCII alone are
+        as they are."""
+        self.assertEqual(styles("Jürgen (2), 名"), '"J\\fc rgen (2), \\540d "')
 
     def test_no_zones(self) -> None:
         """A computer without data of time zones can't say whether a page's times are right, and doesn't say that they

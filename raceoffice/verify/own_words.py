@@ -17,6 +17,8 @@ from raceoffice.remarks import Remark, Value, words_of
 
 # What each line begins with that goes on from the one above, and the fewest columns of a terminal.
 GOES_ON, NARROW = "     | ", 20
+# To which terminals give two columns, whatever Unicode says.
+HEXAGRAMS = range(0x4dc0, 0x4e00)
 
 
 class Bare(str):
@@ -80,4 +82,4 @@ def folded(line: str, columns: int) -> list[str]:
 
 def columns_of(text: str) -> int:
     """The most columns that a text takes: some terminals give two to a sign that others give one."""
-    return sum(1 + (unicodedata.east_asian_width(sign) in "WFA") for sign in text)
+    return sum(1 + (unicodedata.east_asian_width(sign) in "WFA" or ord(sign) in HEXAGRAMS) for sign in text)

@@ -33,8 +33,8 @@ OURS = re.compile(r'<!DOCTYPE html>\n<html lang="en" data-live="(yes|no)" data-e
 
 
 def styles(text: str) -> str:
-    """A text in quotation marks for a style sheet inside a page."""
-    return '"' + re.sub(r'[^ \w.,:;()+–·-]', lambda odd: f"\\{ord(odd[0]):x} ", text) + '"'
+    """A text in quotation marks for a style sheet inside a page: the same whatever letters this Python knows."""
+    return '"' + re.sub(r'[^ \w.,:;()+–·-]', lambda odd: f"\\{ord(odd[0]):x} ", text, flags=re.ASCII) + '"'
 
 
 # Small parts
