@@ -330,6 +330,12 @@ class OlderJournal(Removals):
             self.assertEqual(self.opened(*self.SAILED[:4]), ["?1"])
             self.assertEqual(self.opened(*journal), [])
 
+    def test_in_one_piece(self) -> None:
+        """An office that is killed meanwhile has kept the place again with her lost line, or not at all."""
+        with mock.patch.object(kept_places, "write_all", wraps=kept_places.write_all) as written:
+            self.assertEqual(self.opened(*self.SAILED[:5]), ["?1"])
+        self.assertEqual(written.call_count, 1)
+
     def test_as_it_was(self) -> None:
         """The journal has the line, also if she was struck or got a code since."""
         self.assertEqual(self.opened(*self.SAILED), [])

@@ -287,6 +287,25 @@ class PutBack(Web):
         opened_again(self.text("cup", "journal.txt"), [[SAILS[0]], [SAILS[2]]])
         self.assertEqual(self.said().count("Kept without a sail: ?1 in race 1."), 1)
 
+    def test_older_places(self) -> None:
+        """An older office/places was put back: a device that sends again what that lacks isn't told that the place is kept,
+        also once another finisher has it."""
+        finish, scorer, kept, lost = self.device("finish"), self.device("scorer"), new_id(), new_id()
+        self.assertEqual(finish.tap("? 1", kept)[1]["mark"], "?1")
+        older = self.text("cup", "office", "places")
+        self.assertEqual(finish.tap("? 1", lost)[1]["mark"], "?2")
+        self.assertEqual(finish.tap("? 1", lost)[1]["mark"], "?2")
+        self.agree(scorer, "close")
+        self.write(older, "cup", "office", "places")
+        self.agree(scorer, "open")
+        helpers.until("the office", lambda: not scorer.state()["trouble"])
+        for _ in range(2):
+            status, said = finish.tap("? 1", lost)
+            self.assertEqual((status, said["said"][0]["kind"]), (422, "undo-gone"))
+            self.assertEqual(finish.tap("? 1", kept)[1]["mark"], "?1")
+            finish.tap("? 1")
+        self.assertEqual(shown(scorer.state()["races"]["1"]), ([], [("?1", 0), ("?2", 0), ("?3", 0)]))
+
     def agree(self, scorer: Device, what: str, **values: str) -> None:
         """Has something done with the office, and answers by yes what is asked before."""
         agreed: list[Any] = []

@@ -22,6 +22,8 @@ BOATS: list[tuple[str, ...]] = [
     ("NED 45", "Scholekster", "W. Bakker"), ("IRL 55", "Redshank", "O. Roche"), ("GBR 204", "Fulmar", "T. Lyle")]
 SAILS = [boat[0].replace(" ", "") for boat in BOATS]
 READY = "Ctrl-C closes the office."
+# Seconds
+RESTED = 30.0
 LINK = re.compile(r"^(Finish|Jury|Scorer) +https?://[^/]+(/office/in#\S+)$", re.MULTILINE)
 
 
@@ -104,6 +106,7 @@ class Device:
         self.host = f"127.0.0.1:{port}"
         self.link = http.client.HTTPConnection("127.0.0.1", port, timeout=90, source_address=(source, 0))
         self.fields: dict[str, str] = {}
+        self.asked = time.monotonic()
 
     def come(self, link: str, name: str) -> Device:
         """Comes by a link."""
@@ -124,9 +127,13 @@ class Device:
                "Cookie": self.cookie, "X-Token": self.token}
         fields = own | {name.replace("_", "-"): value for name, value in more.items()}
         sent = {name: value for name, value in fields.items() if value}
+        # The web ends a connection that has rested, as on a machine that has much to do.
+        if time.monotonic() - self.asked > RESTED:
+            self.link.close()
         self.link.request(method, path, json.dumps(body) if body is not None else None, sent)
         answer = self.link.getresponse()
         data, kind = answer.read(), answer.getheader("Content-Type", "")
+        self.asked = time.monotonic()
         self.fields = {name.lower(): value for name, value in answer.getheaders()}
         return answer.status, json.loads(data) if "json" in kind and data else data.decode("utf-8", "replace")
 

@@ -14,7 +14,6 @@ from raceoffice.series.kept_places import History, Places, command_of
 from raceoffice.series.older_copy import is_from_before
 from raceoffice.series.run_program import replayed
 from raceoffice.series.second_folder import Second, copy_of, places_copy_of
-from raceoffice.series.unknown_finishers import Unread
 from raceoffice.terminal import sentence
 
 
@@ -103,9 +102,7 @@ class Backups:
             data = self.places.data()
             journal = [command_of(line) for line in self.folder.kept()]
             for end in History.read(data, journal).lost():
-                self.places.keep_again(*end.key)
-                # As a line without an answer: she is in her place if it is typed again, or the journal comes back.
-                self.places.note_sent(Unread(end.place, end.race, frozenset()), end.line, min(len(journal), end.entry - 1), None)
+                self.places.keep_lost(end, min(len(journal), end.entry - 1))
 
     def guard_places(self) -> str:
         """Puts places in again that somebody has taken out of their file; what is said of that, or nothing.
