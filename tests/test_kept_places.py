@@ -17,7 +17,7 @@ from collections.abc import Callable
 from unittest import mock
 
 import helpers
-from raceoffice import system
+from raceoffice import files, system
 from raceoffice.errors import NotSent, Trouble
 from raceoffice.office.backups import Backups
 from raceoffice.program.journal import Race
@@ -332,7 +332,7 @@ class OlderJournal(Removals):
 
     def test_in_one_piece(self) -> None:
         """An office that is killed meanwhile has kept the place again with her lost line, or not at all."""
-        with mock.patch.object(kept_places, "write_all", wraps=kept_places.write_all) as written:
+        with mock.patch.object(kept_places, "write_all", wraps=files.write_all) as written:
             self.assertEqual(self.opened(*self.SAILED[:5]), ["?1"])
         self.assertEqual(written.call_count, 1)
 
