@@ -93,11 +93,11 @@ class Addresses(Web):
         return device.again().ask(method, path, given, **more)[0]
 
     def files(self) -> dict[str, bytes]:
-        """What the folder of the series has that isn't of the web itself."""
+        """What the folder of the series has that isn't of the web itself. office.log says who came, and how the office is."""
         found = {}
         for name in sorted(os.listdir(os.path.join(self.here, "cup"))):
             path = os.path.join(self.here, "cup", name)
-            if os.path.isfile(path):
+            if os.path.isfile(path) and name != "office.log":
                 with open(path, "rb") as file:
                     found[name] = file.read()
         return found
