@@ -164,7 +164,7 @@ class Attacks(unittest.TestCase):
     def test_cookie(self) -> None:
         """A cookie is for its role's addresses alone, scripts don't see it, and other sites don't send it."""
         device = self.device("jury")
-        self.assertTrue(device.cookie.startswith("office-jury="))
+        self.assertRegex(device.cookie, "^office-jury-[0-9a-f]{8}=")
         self.assertGreaterEqual(len(device.cookie.partition("=")[2]), 43)
         device = self.stranger("jury")
         key = self.web.links["jury"].partition(".")[2]

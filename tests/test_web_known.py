@@ -107,6 +107,35 @@ class Again(Web):
         self.assertEqual(status, 1)
 
 
+class Cookies(unittest.TestCase):
+    """A browser has one cookie of a name for all that a computer serves, whatever its port."""
+
+    def setUp(self) -> None:
+        holder = tempfile.TemporaryDirectory()
+        self.addCleanup(holder.cleanup)
+        self.gates = [Gate(os.path.join(holder.name, name)) for name in ("cup.json", "fleet.json")]
+
+    def come(self, gate: Gate, held: str = "") -> str:
+        """The cookie of a device that comes by a new link."""
+        request = Request("POST", "/", {"cookie": held}, "127.0.0.1")
+        return gate.enter(request, "FINISH", gate.new_key("FINISH"), "Ann")[0].partition(";")[0]
+
+    def knows(self, cookie: str) -> list[bool]:
+        request = Request("GET", "/", {"cookie": cookie}, "127.0.0.1")
+        return [gate.known(request, "FINISH") is not None for gate in (*self.gates, Gate(self.gates[0].path))]
+
+    def test_two_offices(self) -> None:
+        """One phone is at two offices of a computer, also once the web of one was started again."""
+        cookies = [self.come(gate) for gate in self.gates]
+        self.assertEqual(len({cookie.partition("=")[0] for cookie in cookies}), 2)
+        self.assertEqual(self.knows("; ".join(cookies)), [True, True, True])
+
+    def test_of_an_older_package(self) -> None:
+        """Its cookie has the role alone in its name, and is that of one office."""
+        value = self.come(self.gates[0]).partition("=")[2]
+        self.assertEqual(self.knows(f"office-finish={value}"), [True, False, True])
+
+
 class Ages(unittest.TestCase):
     """How long a device is known: 14 days, whatever the computer's clock is set to."""
 

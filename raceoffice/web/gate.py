@@ -85,6 +85,8 @@ class Gate:
                       f"{own}.local"}
         self.keys: dict[str, str] = {}
         self.devices: dict[str, Device] = {}
+        # In the names of its cookies: a browser has one cookie of a name for all ports of a computer.
+        self.id = secrets.token_hex(4)
         self.clock = OwnClock()
         self.written, self.is_heard = time.monotonic(), False
         # Tries at a secret by address; lines and questions by device.
@@ -106,6 +108,7 @@ class Gate:
             self.devices = {mark: device_of(values) for mark, values in held["devices"].items()}
             if "clock" in held:
                 self.clock.go_on(held["clock"])
+            self.id = str(held.get("id", self.id))
         except NotThere:
             return
         except (ValueError, LookupError, TypeError, AttributeError, RecursionError):
@@ -117,7 +120,7 @@ class Gate:
         if not self.path:
             return
         held = {"keys": self.keys, "devices": {mark: asdict(device) for mark, device in self.devices.items()},
-                "clock": self.clock.values()}
+                "clock": self.clock.values(), "id": self.id}
         replace_whole(self.path, json.dumps(held).encode())
         os.chmod(self.path, 0o600)
 
@@ -172,7 +175,7 @@ class Gate:
             self.devices[device.mark] = device
             self.write()
         secure = "; Secure" if self.is_secure else ""
-        return (f"{cookie_name(role)}={cookie}; Path=/office/{role.lower()}; Max-Age={LONG}; HttpOnly; "
+        return (f"{cookie_name(role)}-{self.id}={cookie}; Path=/office/{role.lower()}; Max-Age={LONG}; HttpOnly; "
                 f"SameSite=Strict{secure}"), device.name
 
     def free_name(self, name: str) -> str:
@@ -183,9 +186,13 @@ class Gate:
 
     def known(self, request: Request, role: str) -> Device | None:
         """The device of a role that a request comes from, if it is one."""
-        cookie = request.cookie(cookie_name(role))
+        cookie = self.cookie(request, role)
         device = self.devices.get(hashed(cookie)) if cookie else None
         return device if device and device.role == role and self.lets_in(device.mark) else None
+
+    def cookie(self, request: Request, role: str) -> str:
+        """A device's cookie of a role. That of an older package has no number in its name."""
+        return request.cookie(f"{cookie_name(role)}-{self.id}") or request.cookie(cookie_name(role))
 
     def lets_in(self, mark: str) -> bool:
         """Whether a device is known, and hasn't been for too long, whatever the computer's clock was set to since."""
@@ -226,7 +233,7 @@ class Gate:
 
     def token(self, request: Request, role: str) -> str:
         """What each writing request of a device has to carry: only its own pages can read it."""
-        cookie = request.cookie(cookie_name(role))
+        cookie = self.cookie(request, role)
         return hmac.new(cookie.encode("utf-8", "replace"), b"token", "sha256").hexdigest()[:32]
 
     # What a request has to have

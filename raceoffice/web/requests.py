@@ -160,7 +160,8 @@ def bytes_of(reply: Reply, is_last: bool, is_head: bool) -> bytes:
     fields = {"Date": formatdate(usegmt=True), **safe, "Cache-Control": "no-store", **reply.fields,
               **({"Connection": "close"} if is_last else {})}
     if reply.status not in (204, 304):
-        is_text = reply.kind.startswith("text/") and "charset" not in reply.kind
+        # Modules and workers are UTF-8 whatever is said of them.
+        is_text = reply.kind.startswith("text/") and reply.kind != "text/javascript" and "charset" not in reply.kind
         kind = reply.kind + ("; charset=utf-8" if is_text else "")
         fields |= {"Content-Type": kind, "Content-Length": str(len(reply.data))}
     lines = [f"HTTP/1.1 {reply.status} {REASONS[reply.status]}",

@@ -1,6 +1,7 @@
 """The scorer's and the jury's page in Chromium over the real program, and the links of a new device."""
 from __future__ import annotations
 
+import json
 import os
 import unittest
 
@@ -263,7 +264,13 @@ class Desks(WebTrial):
         scorer.until("!!document.querySelector('.qr path')")
         link = scorer.text(".linktext")
         jury = Device(self.chromium, 820, 1180, language="de")
-        jury.come(self.address(link[link.index("/office/in"):]), "Schiedsgericht")
+        # The link is put into the address of a tab that shows the way in: no page is loaded by that.
+        jury.open(self.address("/office/in"))
+        jury.until("!!document.querySelector('.ways')")
+        jury.run(f"location.href = {json.dumps(self.address(link[link.index('/office/in'):]))}")
+        jury.type("#name", "Schiedsgericht")
+        jury.click("#go")
+        jury.until("document.querySelector('#link')?.dataset.state === 'live'")
         self.assertEqual(jury.run("document.documentElement.lang"), "de")
         jury.until("document.title === 'Jury'")
         # The language of this device is another from now on.

@@ -2,8 +2,9 @@
 // What is asked in a window over the page, and what is said for a moment.
 import {byId, element} from "./elements.js";
 
-// Milliseconds for which something that was said stays.
-const SAID = 6000;
+// Milliseconds for which something that was said stays, and for which a new window takes no finger: it was meant for
+// what is below.
+const SAID = 6000, NEW = 400;
 let counted = 0, hide = 0;
 
 export const isOpen = () => document.querySelector("dialog[open]") !== null;
@@ -23,6 +24,9 @@ export function choose(title, inside, choices, layout = "row") {
     box.onclick = event => { if (event.target === box) end(""); };
     document.body.append(box);
     box.showModal();
+    const shown = performance.now();
+    // The click of a key has no detail.
+    box.addEventListener("click", event => event.detail && performance.now() - shown < NEW && event.stopImmediatePropagation(), true);
     // Enter alone is No, as in a terminal.
     (choices.some(({value}) => value === "yes") ? buttons[0] : box).focus();
   });

@@ -42,4 +42,6 @@ async function begin() {
   fill(byId("main"), ROLES.includes(role) && key ? withLink() : withoutLink());
 }
 
+// Another link that is put into this tab's address differs behind the # alone.
+addEventListener("hashchange", () => location.reload());
 begin();

@@ -15,7 +15,7 @@ const STALE = 3600e3;
 const UNDOABLE = 12;
 const DAY = 864e5;
 const MOMENT = "moment:", LOADED = "loaded";
-// Milliseconds within which the page doesn't load itself a second time
+// Milliseconds between two loads of itself
 const RARELY = 6e5;
 
 export function kept(key, usual) {
@@ -215,16 +215,16 @@ export const fetchParts = () => Object.values(PARTS).forEach(fetched => fetched(
 export async function withPart(name, use) {
   const part = await PARTS[name]().catch(async fault => {
     say(text("common.notReached"), true);
-    // It came, and doesn't fit the other files of this page: the office has got another version since.
+    // It came, and is of another version than this page.
     if (fault instanceof SyntaxError) await loadAgain();
   });
   if (part && !isOpen()) use(part);
 }
 
-// Loads the page again, with files that fit each other, if the device has kept all taps and the office answers.
+// Loads the page again, if the device has kept all taps and the office answers.
 async function loadAgain() {
   const isKept = !queue.isFull && page.moments.every(one => kept(MOMENT + one.id));
-  const isRecent = Math.abs(Date.now() - Number(sessionStorage.getItem(LOADED))) < RARELY;
+  const isRecent = Math.abs(Date.now() - sessionStorage.getItem(LOADED)) < RARELY;
   if (!isKept || isRecent || isOpen() || await comeIn() !== 200) return;
   sessionStorage.setItem(LOADED, Date.now());
   page.isLoading = true;
