@@ -13,6 +13,7 @@ from unittest import mock
 import helpers
 from raceoffice.web.gate import Gate
 from raceoffice.web.requests import Request
+from raceoffice.web.web_office import WebOffice
 from web_devices import Device, Web, is_known
 
 # Seconds
@@ -134,6 +135,36 @@ class Cookies(unittest.TestCase):
         """Its cookie has the role alone in its name, and is that of one office."""
         value = self.come(self.gates[0]).partition("=")[2]
         self.assertEqual(self.knows(f"office-finish={value}"), [True, False, True])
+
+
+class Addresses(unittest.TestCase):
+    """A network gives the computer another address while the office is served."""
+
+    def follow(self, follows: bool, *addresses: list[str]) -> tuple[WebOffice, list[str]]:
+        """An office of http://192.168.1.20:8080/ once the computer had these addresses, and what it said."""
+        told: list[str] = []
+        office = WebOffice(Gate(""), "/none", "http://192.168.1.20:8080/", told.append, follows=follows)
+        for found in addresses:
+            with mock.patch("raceoffice.web.web_office.addresses", return_value=found):
+                office.follow_address()
+        return office, told
+
+    def test_another(self) -> None:
+        """It answers there, links are of there, and it is said once; none is the old one's for a while."""
+        for addresses in ([["192.168.43.7"]] * 2, [["127.0.0.1"], ["192.168.43.7", "10.0.0.9"], ["192.168.43.7"]]):
+            office, told = self.follow(True, *addresses)
+            office.gate.check_host(Request("GET", "/", {"host": "192.168.43.7:8080"}, "127.0.0.1"))
+            self.assertEqual(office.address, "http://192.168.43.7:8080/")
+            self.assertEqual([said.count(f"is at {office.address}. ") for said in told], [1])
+
+    def test_without_a_network(self) -> None:
+        office, told = self.follow(True, ["127.0.0.1"], ["192.168.1.20"])
+        self.assertEqual((office.address, told), ("http://192.168.1.20:8080/", []))
+
+    def test_one_that_was_chosen(self) -> None:
+        """A name, or one address, that somebody has chosen stays that of links."""
+        office, told = self.follow(False, ["192.168.43.7"])
+        self.assertEqual((office.address, told), ("http://192.168.1.20:8080/", []))
 
 
 class Ages(unittest.TestCase):

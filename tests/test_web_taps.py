@@ -304,6 +304,8 @@ class PutBack(Web):
             self.assertEqual((status, said["said"][0]["kind"]), (422, "undo-gone"))
             self.assertEqual(finish.tap("? 1", kept)[1]["mark"], "?1")
             finish.tap("? 1")
+        status, said = finish.tap("UNDO", undoes=lost)
+        self.assertEqual((status, said["said"][0]["kind"]), (422, "undo-gone"))
         self.assertEqual(shown(scorer.state()["races"]["1"]), ([], [("?1", 0), ("?2", 0), ("?3", 0)]))
 
     def agree(self, scorer: Device, what: str, **values: str) -> None:

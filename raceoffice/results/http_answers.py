@@ -26,6 +26,8 @@ WORDS = {301: "The page is at the address with a slash at its end.",
          400: "This isn't a request that is answered here.",
          404: "There is no such page here.", 405: "This board can only be read.",
          408: "The request took too long.", 431: "The request is too long."}
+# The address of this computer that it has without a network
+LOOPBACK = "127.0.0.1"
 SAFE = {"X-Content-Type-Options": "nosniff", "Referrer-Policy": "no-referrer"}
 
 
@@ -147,4 +149,4 @@ def addresses() -> list[str]:
             pass
     found += system.addresses_in_networks()
     outside = [text for text in dict.fromkeys(found) if not text.startswith("127.")]
-    return outside or ["127.0.0.1"]
+    return outside or [LOOPBACK]

@@ -318,7 +318,7 @@ class Room:
         """Whether the journal of the open office lacks the line of a tap, as after an older journal was put back, and nobody
         has typed it again. That of a boat who was taken out since is meant to be gone."""
         if sent.place and not self.trouble:
-            return self.has_lost_place(sent, sent.place)
+            return not self.register.has_place(sent, self.places.read(self.facts.commands))
         line, journal = sent.own.split(maxsplit=3)[3] if sent.own else "", self.facts.sheet.journal
         if self.trouble or not line or sent.own in journal:
             return False
@@ -328,12 +328,6 @@ class Room:
         sail = "".join(rest[:1] if command == "ENTER" else rest[1:2])
         since = itertools.takewhile(lambda entry: as_kept(entry.line) != line, reversed(self.folder.logged()))
         return not any(entry.line == f"removed {sail}" for entry in since)
-
-    def has_lost_place(self, sent: Sent, place: tuple[int, str]) -> bool:
-        """Whether office/places lacks the place that a tap kept, as after an older one was put back, or has it for another
-        finisher by now."""
-        first = self.places.read(self.facts.commands).first.get(place)
-        return first is None or first.window != sent.window or self.register.keeper_of(place) is not sent
 
     def settle(self) -> None:
         """Notes what came of each tap that was begun and never ended, as the journal has it now."""

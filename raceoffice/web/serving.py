@@ -61,8 +61,10 @@ class Web:
         scheme = "https" if asked.certificate else "http"
         self.own = asked.own or (folders[0].settings.address if folders else "")
         gate = gate_of(folders, [name for name in (asked.name, self.own) if name], bool(asked.certificate))
-        address = f"{scheme}://{asked.name or self.own or addresses()[0]}:{asked.port}/"
-        self.office = WebOffice(gate, parent, address, self.tell, to_come={folder.name for folder in folders})
+        chosen = asked.name or self.own
+        address = f"{scheme}://{chosen or addresses()[0]}:{asked.port}/"
+        self.office = WebOffice(gate, parent, address, self.tell, to_come={folder.name for folder in folders},
+                                follows=not chosen)
         self.folders = folders
         self.routes = Routes(self.office)
 

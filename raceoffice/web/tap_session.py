@@ -172,6 +172,8 @@ class TapSession(Session):
         if first == "ABANDON":
             lines = sum(one.answer.startswith("OK ") for one in self.register.parts(sent.id))
             raise NotSent(remark("undo-abandon", race=rest[0], lines=count(lines, "line")))
+        if sent.place and not self.register.has_place(sent, self.places.read(self.facts.commands)):
+            raise NotSent(remark("undo-gone", line=sent.line))
         unread = Unread(sent.mark, self.facts.race(rest[0]).number, frozenset()) if sent.mark else None
         if not sent.entry:
             return Done(unread=unread, what="dropped" if rest[1:] == [DROPPED] else "kept")

@@ -10,7 +10,7 @@ from dataclasses import dataclass, field
 from raceoffice.errors import Fault, Trouble
 from raceoffice.files import PRIVATE
 from raceoffice.remarks import remark, system_remark
-from raceoffice.results.http_answers import Board
+from raceoffice.results.http_answers import LOOPBACK, Board, addresses
 from raceoffice.results.source import need_own_names
 from raceoffice.series.folder import Folder
 from raceoffice.series.unknown_finishers import places_by_race
@@ -48,8 +48,9 @@ class LeftOut:
 
 @dataclass
 class WebOffice:
-    """The classes by the names of their folders. `address` is what devices open, `parent` the folder in which
-    a new series is made, `tell` hears what happens. The classes `to_come` are being opened, one after another."""
+    """The classes by the names of their folders. `address` is what devices open, and if it `follows` is that of this
+    computer; `parent` is the folder in which a new series is made, `tell` hears what happens. The classes `to_come` are
+    being opened, one after another."""
     gate: Gate
     parent: str
     address: str
@@ -59,6 +60,7 @@ class WebOffice:
     live_board: LiveBoard | None = None
     is_ending: threading.Event = field(default_factory=threading.Event)
     to_come: set[str] = field(default_factory=set)
+    follows: bool = False
     # The classes that can't be served, each with why.
     left_out: dict[str, LeftOut] = field(default_factory=dict)
 
@@ -117,6 +119,18 @@ class WebOffice:
                 if self.live_board:
                     self.live_board.round()
                 self.gate.note_heard()
+                self.follow_address()
+
+    def follow_address(self) -> None:
+        """Answers at another address that a network has given to this computer meanwhile, and says so: what devices have by
+        the old one stays there. Without a network the old one may come back."""
+        found = [text for text in addresses() if text != LOOPBACK]
+        self.gate.hosts.update(found)
+        scheme, host, port = self.address.split(":")
+        if self.follows and found and host[2:] not in found:
+            self.address = f"{scheme}://{found[0]}:{port}"
+            self.tell(f"Beware: this computer has another address now, and the office is at {self.address}. Devices need new "
+                      "links. See first which taps wait on their old pages: those stay there.")
 
     def writers(self) -> list[str]:
         """The devices that may still write to an office that this process keeps, with their roles."""

@@ -149,19 +149,25 @@ class Desks(WebTrial):
         self.assertEqual(self.journal()[-6:], [
             "SCORER FINISH 3 GBR101", "SCORER FINISH 3 GBR33", "SCORER TIE 3 NED12 GBR33",
             "SCORER STRIKE 1 GBR101", "SCORER STRIKE 1 GBR33", "SCORER STRIKE 1 NED12"])
-        # All of race 3 belongs to race 4, a code and a penalty, too.
-        for line in ("mark 3 den61 RET", "penalty 3 ned12 ZFP"):
+        # All of race 3 belongs to race 4, codes and penalties, too, also of who hasn't finished; not what the jury decided.
+        helpers.run("type", "cup", "--role", "jury", lines="MARK 3 IRL5 DSQ\n", cwd=self.here)
+        scorer.until("document.querySelector('.order').textContent.includes('DSQ')")
+        held = "import('/office/static/desk.js').then(({raceNumbered}) => JSON.stringify(raceNumbered('cup', 3))"
+        for line in ("penalty 3 ger412 SCP", "mark 3 den61 RET", "penalty 3 ned12 ZFP"):
             scorer.type("#typed", line)
             scorer.press("Send")
-            scorer.until(f"document.querySelector('#typed').value === '' && document.querySelector('.order').textContent.includes('{line[-3:]}')")
+            scorer.until(f"document.querySelector('#typed').value === '' && {held}.includes('{line[-3:]}'))")
         scorer.click("#other-race")
         scorer.until("document.querySelector('dialog[open] #codes-too')?.checked")
+        self.assertIn("These codes, too: DEN 61 Terne RET and GER 412 Möwe SCP", scorer.text("dialog[open]"))
+        self.assertIn("What the jury decided stays in race 3: IRL 5 Curlew", scorer.text("dialog[open]"))
         scorer.run("document.querySelectorAll('dialog[open] select')[1].value = '4'")
         scorer.choose("yes")
-        scorer.until("document.querySelectorAll('.order tbody tr').length === 0")
-        self.assertEqual(self.journal()[-10:], [
+        self.becomes(scorer, order, "IRL 5")
+        self.assertEqual(self.journal()[-12:], [
             "SCORER FINISH 4 GBR101", "SCORER FINISH 4 GBR33", "SCORER TIE 4 NED12 GBR33", "SCORER PENALTY 4 NED12 ZFP",
-            "SCORER CLEAR 3 NED12", "SCORER MARK 4 DEN61 RET", "SCORER CLEAR 3 DEN61",
+            "SCORER CLEAR 3 NED12", "SCORER MARK 4 DEN61 RET", "SCORER CLEAR 3 DEN61", "SCORER PENALTY 4 GER412 SCP",
+            "SCORER CLEAR 3 GER412",
             "SCORER STRIKE 3 GBR101", "SCORER STRIKE 3 GBR33", "SCORER STRIKE 3 NED12"])
         self.need_no_faults()
 

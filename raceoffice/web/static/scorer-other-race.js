@@ -8,7 +8,7 @@ import {choose, say} from "./dialogs.js";
 import {remarkSentences, troubleWords} from "./remark-words.js";
 import {called, raceNumbered, state} from "./desk.js";
 import {spaced} from "./sails.js";
-import {atTheLine} from "./race-view.js";
+import {atTheLine, heldBy} from "./race-view.js";
 import {addressOf, withClass} from "./sending.js";
 import {agreedOfLines, lines} from "./scorer-unfinished.js";
 import {isJurys, linesOfCodes, linesOfOtherRace, linesOfOtherSheet} from "./corrections.js";
@@ -31,9 +31,16 @@ function rowsThatStay(name, number, race) {
   return sails.length ? element("p", {class: "wrong"}, text("scorer.rowsStay", {n: sails.length, sails: sails.map(spaced), name: `times/race-${number}.csv`})) : null;
 }
 
-// Which finishers and codes belong to which race; null if none are to be moved.
+// Says before what stays: the jury alone clears what it has decided.
+function rulingsThatStay(name, number, race, sails) {
+  const ruled = sails.filter(sail => isJurys(race, sail)).map(sail => called(sail, name));
+  return ruled.length ? element("p", {class: "wrong"}, text("scorer.rulingsStay", {number, sails: ruled})) : null;
+}
+
+// Which finishers, codes and penalties belong to which race; null if none are to be moved.
 async function asked(name, number, race, finishers) {
-  const coded = Object.keys(race.codes).filter(sail => !finishers.includes(sail));
+  const holding = Object.keys({...race.codes, ...race.penalties, ...race.redress});
+  const coded = holding.filter(sail => !finishers.includes(sail) && !isJurys(race, sail));
   const field = element("select", {"aria-label": text("common.race")},
     Array.from({length: RACES}, (_, at) => at + 1).filter(one => one !== number).map(one => element("option", {value: one}, one)));
   const codes = element("input", {type: "checkbox", id: "codes-too", checked: true});
@@ -42,8 +49,8 @@ async function asked(name, number, race, finishers) {
     finishers.map(sail => element("option", {value: sail}, called(sail, name))));
   const done = await choose(text("scorer.otherRace"), [element("label", {class: "field"}, text("scorer.fromBoat"), from),
     coded.length ? element("div", {class: "options"}, element("label", {}, codes, element("span", {},
-      text("scorer.codesToo", {codes: coded.map(sail => `${called(sail, name)} ${race.codes[sail]}`)})))) : null,
-    element("label", {class: "field"}, text("scorer.belongTo"), field), rowsThatStay(name, number, race)], [cancel(), {value: "yes", label: text("scorer.putThem"), look: "main"}]);
+      text("scorer.codesToo", {codes: coded.map(sail => [called(sail, name), ...heldBy(race, sail)].join(" "))})))) : null,
+    element("label", {class: "field"}, text("scorer.belongTo"), field), rulingsThatStay(name, number, race, holding), rowsThatStay(name, number, race)], [cancel(), {value: "yes", label: text("scorer.putThem"), look: "main"}]);
   const sails = finishers.slice(from.selectedIndex);
   return done === "yes" ? {to: Number(field.value), sails, isAll: from.selectedIndex === 0, coded: codes.checked ? coded : []} : null;
 }
