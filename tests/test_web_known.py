@@ -4,13 +4,16 @@ from __future__ import annotations
 import http.client
 import json
 import os
+import shutil
 import socket
 import tempfile
 import unittest
+from collections.abc import Callable
 from contextlib import closing
 from unittest import mock
 
 import helpers
+from raceoffice.errors import Trouble
 from raceoffice.web.gate import Gate
 from raceoffice.web.requests import Request
 from raceoffice.web.web_office import WebOffice
@@ -114,27 +117,60 @@ class Cookies(unittest.TestCase):
     def setUp(self) -> None:
         holder = tempfile.TemporaryDirectory()
         self.addCleanup(holder.cleanup)
+        self.holder = holder.name
         self.gates = [Gate(os.path.join(holder.name, name)) for name in ("cup.json", "fleet.json")]
 
     def come(self, gate: Gate, held: str = "") -> str:
         """The cookie of a device that comes by a new link."""
         request = Request("POST", "/", {"cookie": held}, "127.0.0.1")
-        return gate.enter(request, "FINISH", gate.new_key("FINISH"), "Ann")[0].partition(";")[0]
+        return gate.enter(request, "FINISH", gate.new_key("FINISH", are_devices_out=not held), "Ann")[0].partition(";")[0]
 
     def knows(self, cookie: str) -> list[bool]:
         request = Request("GET", "/", {"cookie": cookie}, "127.0.0.1")
         return [gate.known(request, "FINISH") is not None for gate in (*self.gates, Gate(self.gates[0].path))]
 
     def test_two_offices(self) -> None:
-        """One phone is at two offices of a computer, also once the web of one was started again."""
-        cookies = [self.come(gate) for gate in self.gates]
-        self.assertEqual(len({cookie.partition("=")[0] for cookie in cookies}), 2)
-        self.assertEqual(self.knows("; ".join(cookies)), [True, True, True])
+        """One phone is at two offices of a computer, also if one has the other's links, or was started again."""
+        for name in ("fleet.json", "cup.json"):
+            path = os.path.join(self.holder, name)
+            if name == "cup.json":
+                shutil.copy(self.gates[0].path, path + ".copy")
+                path += ".copy"
+            self.gates[1] = Gate(path)
+            cookies = [self.come(gate) for gate in self.gates]
+            self.assertEqual(len({cookie.partition("=")[0] for cookie in cookies}), 2)
+            self.assertEqual(self.knows("; ".join(cookies)), [True, True, True], name)
+
+    def test_comes_again(self) -> None:
+        """A device that comes again has one cookie, as before."""
+        first = self.come(self.gates[0])
+        again = self.come(self.gates[0], first)
+        self.assertEqual(again.partition("=")[0], first.partition("=")[0])
+        self.assertEqual((self.knows(first)[0], self.knows(again)[0]), (False, True))
 
     def test_of_an_older_package(self) -> None:
         """Its cookie has the role alone in its name, and is that of one office."""
         value = self.come(self.gates[0]).partition("=")[2]
         self.assertEqual(self.knows(f"office-finish={value}"), [True, False, True])
+
+
+class FullDisk(unittest.TestCase):
+    def test_nothing_changes(self) -> None:
+        """Where the file of devices can't be written, links and devices are as they were."""
+        holder = tempfile.TemporaryDirectory()
+        self.addCleanup(holder.cleanup)
+        gate = Gate(os.path.join(holder.name, "web.json"))
+        key = gate.new_key("FINISH")
+        request = Request("POST", "/", {}, "127.0.0.1")
+        cookie = gate.enter(request, "FINISH", key, "Ann")[0].partition(";")[0]
+        again, mark = Request("POST", "/", {"cookie": cookie}, "127.0.0.1"), next(iter(gate.devices))
+        changes: list[Callable[[], object]] = [lambda: gate.enter(again, "FINISH", key, "Ann"), lambda: gate.new_key("FINISH"),
+                                               lambda: gate.new_key("FINISH", False), lambda: gate.revoke(mark)]
+        with mock.patch("raceoffice.web.gate.replace_whole", side_effect=Trouble("No room")):
+            for change in changes:
+                self.assertRaises(Trouble, change)
+                self.assertIsNotNone(gate.known(again, "FINISH"))
+        self.assertTrue(gate.enter(again, "FINISH", key, "Ann"))
 
 
 class Addresses(unittest.TestCase):

@@ -344,6 +344,17 @@ class Damaged(unittest.TestCase):
         self.here = holder.name
         self.path = os.path.join(self.here, "web.taps")
 
+    def test_a_place_that_another_has_now(self) -> None:
+        """An older office/places was put back, and the next finisher got the name of a place that it lacks: the place is that
+        of who kept it last."""
+        register = Register(self.path)
+        self.addCleanup(register.close)
+        for name, race, mark in ("Ann", 1, "?1"), ("Ann", 1, "?2"), ("Bob", 1, "?2"), ("Ann", 2, "?2"):
+            id = new_id()
+            register.begin(Sent(id, "FINISH", f"? {race}", 6, name, 2, 9))
+            register.end(id, "NOTED", mark)
+        self.assertEqual([register.places_by(name, 1) for name in ("Ann", "Bob")], [{"?1"}, {"?2"}])
+
     def test_each_bit(self) -> None:
         """Whichever bit of the register rots, the others of its taps are known, and nothing goes wrong."""
         journal, ids = ["1 1 SCORER ENTER GBR7", "1 2 FINISH FINISH 1 GBR7"], [new_id(), new_id()]

@@ -15,7 +15,7 @@ import secrets
 import socket
 import threading
 import time
-from collections.abc import Callable, Iterable
+from collections.abc import Callable, Iterable, Iterator
 from dataclasses import asdict, dataclass
 from typing import Any
 
@@ -85,8 +85,6 @@ class Gate:
                       f"{own}.local"}
         self.keys: dict[str, str] = {}
         self.devices: dict[str, Device] = {}
-        # In the names of its cookies: a browser has one cookie of a name for all ports of a computer.
-        self.id = secrets.token_hex(4)
         self.clock = OwnClock()
         self.written, self.is_heard = time.monotonic(), False
         # Tries at a secret by address; lines and questions by device.
@@ -108,7 +106,6 @@ class Gate:
             self.devices = {mark: device_of(values) for mark, values in held["devices"].items()}
             if "clock" in held:
                 self.clock.go_on(held["clock"])
-            self.id = str(held.get("id", self.id))
         except NotThere:
             return
         except (ValueError, LookupError, TypeError, AttributeError, RecursionError):
@@ -120,9 +117,22 @@ class Gate:
         if not self.path:
             return
         held = {"keys": self.keys, "devices": {mark: asdict(device) for mark, device in self.devices.items()},
-                "clock": self.clock.values(), "id": self.id}
+                "clock": self.clock.values()}
         replace_whole(self.path, json.dumps(held).encode())
         os.chmod(self.path, 0o600)
+
+    @contextlib.contextmanager
+    def changing(self) -> Iterator[None]:
+        """While secrets or devices are changed. If the file can't be written, all is as it was."""
+        with self.lock:
+            keys, devices = dict(self.keys), dict(self.devices)
+            try:
+                yield
+                self.write()
+            except Trouble:
+                self.keys, self.devices = keys, devices
+                raise
+            self.told_out()
 
     def move(self, path: str) -> None:
         """Keeps everything in another file from now on: that of the series that was just made."""
@@ -135,23 +145,19 @@ class Gate:
     def new_key(self, role: str, are_devices_out: bool = True) -> str:
         """A new secret for a role, which is shown once. The old one isn't valid any more, and its devices are
         put out, or stay."""
-        with self.lock:
-            secret = secrets.token_urlsafe(16)
+        secret = secrets.token_urlsafe(16)
+        with self.changing():
             self.keys[role] = hashed(secret)
             if are_devices_out:
                 self.devices = {mark: device for mark, device in self.devices.items() if device.role != role}
-            self.told_out()
-            self.write()
-            return secret
+        return secret
 
     def revoke(self, mark: str) -> None:
         """Puts one device out; `mark` is the beginning of its own."""
         if len(mark) < MARK:
             return
-        with self.lock:
+        with self.changing():
             self.devices = {key: device for key, device in self.devices.items() if not key.startswith(mark)}
-            self.told_out()
-            self.write()
 
     def enter(self, request: Request, role: str, secret: str, name: str) -> tuple[str, str]:
         """The cookie of a device that shows the secret of a role, and its name. If another has that already it gets a
@@ -161,21 +167,22 @@ class Gate:
         if not held or not same(held, hashed(secret)):
             raise Wrong(403, "this link isn't valid any more: ask for a new one", "link-ended")
         cookie, now = secrets.token_urlsafe(32), self.clock.now()
-        with self.lock:
+        # A browser has one cookie of a name for all ports of a computer: each device's has another name.
+        cookie_name = f"{beginning_of(role)}-{secrets.token_hex(4)}"
+        with self.changing():
             if before := self.known(request, role):
                 # It comes again.
                 self.devices.pop(before.mark, None)
+                cookie_name = next(name for name, value in request.cookies(beginning_of(role)) if hashed(value) == before.mark)
             of_role = sorted((device for device in self.devices.values() if device.role == role),
                              key=lambda device: device.heard)
             for device in of_role[:max(0, len(of_role) - DEVICES + 1)]:
                 self.devices.pop(device.mark)
-            self.told_out()
             device = Device(hashed(cookie), role, self.free_name(plain_name(name) or role.lower()), now, now, 0,
                             request.address)
             self.devices[device.mark] = device
-            self.write()
         secure = "; Secure" if self.is_secure else ""
-        return (f"{cookie_name(role)}-{self.id}={cookie}; Path=/office/{role.lower()}; Max-Age={LONG}; HttpOnly; "
+        return (f"{cookie_name}={cookie}; Path=/office/{role.lower()}; Max-Age={LONG}; HttpOnly; "
                 f"SameSite=Strict{secure}"), device.name
 
     def free_name(self, name: str) -> str:
@@ -186,13 +193,17 @@ class Gate:
 
     def known(self, request: Request, role: str) -> Device | None:
         """The device of a role that a request comes from, if it is one."""
-        cookie = self.cookie(request, role)
-        device = self.devices.get(hashed(cookie)) if cookie else None
-        return device if device and device.role == role and self.lets_in(device.mark) else None
+        return self.devices.get(hashed(self.cookie(request, role)))
 
     def cookie(self, request: Request, role: str) -> str:
-        """A device's cookie of a role. That of an older package has no number in its name."""
-        return request.cookie(f"{cookie_name(role)}-{self.id}") or request.cookie(cookie_name(role))
+        """The cookie by which a device of a role is known; empty if it isn't. Its browser may have others, of other
+        offices on this computer."""
+        held = [value for _, value in request.cookies(beginning_of(role))]
+        return next((cookie for cookie in held if self.is_of_role(hashed(cookie), role)), "")
+
+    def is_of_role(self, mark: str, role: str) -> bool:
+        device = self.devices.get(mark)
+        return device is not None and device.role == role and self.lets_in(mark)
 
     def lets_in(self, mark: str) -> bool:
         """Whether a device is known, and hasn't been for too long, whatever the computer's clock was set to since."""
@@ -265,5 +276,6 @@ class Gate:
         return device
 
 
-def cookie_name(role: str) -> str:
+def beginning_of(role: str) -> str:
+    """What the names of a role's cookies begin with. That of an older package has no more than that."""
     return f"office-{role.lower()}"

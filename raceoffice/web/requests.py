@@ -91,9 +91,10 @@ class Request:
             raise Wrong(400, "the body can't be read")
         return found
 
-    def cookie(self, name: str) -> str:
+    def cookies(self, beginning: str) -> list[tuple[str, str]]:
+        """The cookies whose names begin so: their names and values."""
         pairs = (part.strip().partition("=") for part in self.fields.get("cookie", "").split(";", COOKIES))
-        return next((value for key, _, value in pairs if key == name), "")
+        return [(name, value) for name, _, value in pairs if name.startswith(beginning)]
 
     @property
     def takes_gzip(self) -> bool:
