@@ -10,11 +10,13 @@ import json
 import os
 import random
 import re
+import shutil
 import stat
 import subprocess
 import time
 import unittest
 import unittest.mock
+import zoneinfo
 from collections.abc import Callable
 from typing import Any
 
@@ -311,6 +313,18 @@ then exec sleep 60; fi\n: > {self.here}/once\nexec {helpers.PROGRAM} "$@\"""")]:
                 self.verifier.verified(page)
             time.tzset()
             self.assertRegex(page, rf"<time [^>]*>[^<]*, [0-9:]{{5}} {words}</time>")
+
+    def test_unknown_zone(self) -> None:
+        """Nor can it say so of a page whose zone it doesn't know, as that of newer data."""
+        self.make("named", zone="Europe/Lisbon")
+        self.write(self.page("named"), "page.html")
+        known = next(os.path.join(path, "UTC") for path in zoneinfo.TZPATH if os.path.exists(os.path.join(path, "UTC")))
+        os.mkdir(os.path.join(self.here, "zones"))
+        shutil.copy(known, os.path.join(self.here, "zones", "UTC"))
+        with unittest.mock.patch.dict(os.environ, PYTHONTZPATH=os.path.join(self.here, "zones")):
+            said, status = helpers.run("verify", "page.html", "--program", helpers.PROGRAM, cwd=self.here)
+        self.assertEqual((said, status), ("page.html: not verified: this computer doesn't know the time zone 'Europe/Lisbon' "
+                                          "(packages tzdata, tzdata-legacy).\n", 2))
 
     def test_styles(self) -> None:
         """A style sheet has the same title on each computer, whatever letters its Python knows: those of ASCII alone are

@@ -20,6 +20,8 @@ from raceoffice.series.settings import CHECKS, LINE_END
 
 START = f'<script type="{KIND}" id="{ID}">\n'
 END = "</script>"
+# The form of a time zone's name, as Europe/Lisbon
+ZONE = re.compile(r"[A-Za-z][\w+-]{0,40}(?:/[\w+-]{1,40}){0,2}", re.ASCII)
 # What the program reads of a journal at most, and how many series are worked out.
 JOURNAL, ENTRIES, SERIES = 1 << 20, 8192, 100
 # The most characters of a block: thirty times as many as that of 500 boats, 40 races and a full journal has. To read one
@@ -263,9 +265,11 @@ def wrong_name(carried: Carried) -> str:
 
 
 def wrong_settings(carried: Carried) -> str:
-    """The setting that no series could have."""
+    """The setting that no series could have. Unsure if it is a time zone that this computer may not know."""
     for name, value in carried.settings.items():
         is_right, wanted = CHECKS.get(name, (is_text, "a text"))
+        if name == "zone" and isinstance(value, str) and ZONE.fullmatch(value) and not time_zones.is_name(value):
+            raise Unsure(f"this computer doesn't know the time zone {quoted(value)} (packages tzdata, tzdata-legacy)")
         if not is_right(value):
             return f"the setting {name} is {quoted(value)}, and has to be {wanted}"
     return ""
