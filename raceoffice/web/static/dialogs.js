@@ -24,9 +24,10 @@ export function choose(title, inside, choices, layout = "row") {
     box.onclick = event => { if (event.target === box) end(""); };
     document.body.append(box);
     box.showModal();
-    const shown = performance.now();
-    // The click of a key has no detail.
-    box.addEventListener("click", event => event.detail && performance.now() - shown < NEW && event.stopImmediatePropagation(), true);
+    // It is seen from the second frame on, and a click may wait long until the page gets round to it. That of a key has no detail.
+    let seen;
+    requestAnimationFrame(() => requestAnimationFrame(at => { seen = at; }));
+    box.addEventListener("click", event => event.detail && !(event.timeStamp - seen > NEW) && event.stopImmediatePropagation(), true);
     // Enter alone is No, as in a terminal.
     (choices.some(({value}) => value === "yes") ? buttons[0] : box).focus();
   });
