@@ -152,6 +152,12 @@ class Unread(unittest.TestCase):
         self.assertEqual((left.marks(1), left.one(2, "?").mark, left.next_mark(1)), ([], "?1", "?4"))
         self.assertRaises(NotSent, left.one, 1, "?0")
 
+    def test_marks_after_a_loss(self) -> None:
+        """A line of the file can't be read: nobody else gets the mark of a finisher who is still there."""
+        for lost in ("?1", "101?"):
+            left = waiting(*[kept(mark) for mark in ("?1", "?2", "101?", "101?2") if mark != lost])
+            self.assertEqual((left.next_mark(1), left.next_mark(1, "101")), ("?3", "101?3"))
+
     def test_marks_of_numbers(self) -> None:
         """What was typed of a sail is in her mark; the second of a number has a number of her own."""
         found = waiting(kept("?1"), kept("101?"), kept("101?2"), kept("?2"), dropped("101?"))

@@ -52,9 +52,9 @@ class Waiting:
         return [unread.mark for unread in self.of(race)]
 
     def next_mark(self, race: int, typed: str = "") -> str:
-        """How the next one of a race is called."""
-        before = [mark for of, mark in self.given if of == race and mark.partition("?")[0] == typed]
-        return f"{typed}?" if typed and not before else f"{typed}?{len(before) + 1}"
+        """How the next one of a race is called: by the number after the highest, since the line of one may be lost."""
+        ends = [mark.rpartition("?")[2] for of, mark in self.given if of == race and mark.partition("?")[0] == typed]
+        return f"{typed}?" if typed and not ends else f"{typed}?{max([int(end or 1) for end in ends], default=0) + 1}"
 
     def one(self, race: int, mark: str) -> Unread:
         """One of them as she is called, or the only one by ? alone; NotSent if it isn't clear who."""
