@@ -395,6 +395,8 @@ class Two(WebTrial):
         ann, ben = self.phone_of_both(port=line.own), self.phone_of_both()
         ann.tap("GBR33", "cup")
         self.settle(ann)
+        # The page has fetched what opens its rows: that comes after the boats.
+        ann.run("import('/office/static/finish-rows.js').then(() => 0)")
         line.cut()
         ann.tap("GBR33", "fleet")
         ben.tap("NED80", "fleet")
