@@ -56,7 +56,7 @@ board/kept: number placed after is_scored revise
 board/refusals: act command_act finish of_system unplaced number is_placed
 board/act: on_sheet
 terms/roles: may
-scores/sheet: placed after order_after held_after seconds_after
+scores/sheet: placed after changed with_order with_places
 scores/groups: contains
 scores/orders: with_last
 terms/laws: parts_are_in_range
@@ -112,6 +112,12 @@ def is_definition(line: str) -> bool:
     return bool(line.strip()) and not line.strip().startswith("--")
 
 
+def is_closed(contract: list[str]) -> bool:
+    """Whether no clause is open: a `;` then ends a function that has no body."""
+    text = "\n".join(contract)
+    return text.count("{") == text.count("}")
+
+
 def function_at(crate: str, module: str, lines: list[str], at: int) -> Function | None:
     """The function whose head begins at this line."""
     head = HEAD.match(lines[at])
@@ -126,7 +132,7 @@ def function_at(crate: str, module: str, lines: list[str], at: int) -> Function 
             return found
         if CLAUSE.match(line) or found.contract:
             found.contract += [line] if line.strip() else []
-        if line.endswith(";"):
+        if line.endswith(";") and is_closed(found.contract):
             return found
         at += 1
     for line in lines[at + 1:]:

@@ -56,11 +56,8 @@ class Rulings(Web):
     def yes(self, role: str, line: str, name: str, **more: Any) -> Any:
         """The answer to a tap of which all questions are answered by yes."""
         agreed: list[Any] = []
-        while (found := self.devices[role].tap(line, name=name, agreed=agreed, **more))[0] in (409, 429):
-            if found[0] == 409:
-                agreed.append(found[1]["question"])
-            else:
-                time.sleep(0.1)
+        while (found := self.devices[role].tap(line, name=name, agreed=agreed, **more))[0] == 409:
+            agreed.append(found[1]["question"])
         return found[1]
 
     def ruled(self, name: str, line: str, out: bool = False, reopen: bool = False) -> list[str]:

@@ -34,6 +34,11 @@ entry_of pass role command = next_entry pass.seat pass.last role command
 abbrev pub with_told : PassValue → Journal → PassValue
 with_told pass journal = record pass { told = pass.told ++ journal ∷ [] }
 
+-- the pass after its command was run: this entry is its last, and it was told of this journal
+abbrev pub with_run : PassValue → EntryParts → Journal → PassValue
+with_run pass entry journal =
+    record pass { last = entry.nth; told = pass.told ++ journal ∷ [] }
+
 -- the journal that was seen: that of its note, followed by the last entry if there is one
 abbrev pub seen_of : Seen → Journal
 seen_of seen = journal_of seen.journal.note.journal seen.journal.last

@@ -60,6 +60,10 @@ abbrev pub Took : Option (List ℕ) → Option (List ℕ) → List ℕ → Point
 Took old new piece before after (Some n) = Went old new (take n piece) before after false
 Took old new piece before after None = Went old new piece before after true
 
+-- a number of bytes of a piece, at least one, or its end
+abbrev pub IsPart : List ℕ → Option ℕ → Type 0
+IsPart piece count = IfSome count (λ n. (0 < n) × (n ≤ length piece))
+
 -- what a writer took for some first bytes of a piece, after which the run broke off
 pub record Broke (old new : Option (List ℕ)) (piece : List ℕ) (before : Point) : Type 0 where
   pub count : ℕ

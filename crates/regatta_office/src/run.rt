@@ -8,7 +8,7 @@ ghost use Rattle.regatta_board.specs.Replays.{first_refused};
 ghost use Rattle.regatta_office.specs.declared.run.TheConstants.{INPUT_LIMIT};
 ghost use Rattle.regatta_office.specs.Coming.{Cuts, IsTooLong, IsWithin, ReadSome, Stops, Talked};
 ghost use Rattle.regatta_office.specs.Coming.{coming};
-ghost use Rattle.regatta_office.specs.Faults.{IsDeviceFault, IsRunFaultOf};
+ghost use Rattle.regatta_office.specs.Faults.{AreCounted, IsRunFaultOf};
 ghost use Rattle.regatta_office.specs.Faults.{scribe_fault as scribe_fault_of};
 ghost use Rattle.regatta_office.specs.Faults.{start_fault as start_fault_of};
 ghost use Rattle.regatta_terms.specs.TextLines.{ended_lines, lines};
@@ -86,10 +86,8 @@ fn turn<R: Source, W: Sink>(
     ensures within { IfOk result (λ count. count ≡ None →
         IfSome (R.remaining input.old) (IsWithin (point scribe.old) most)) }
     ensures taken { GaveAtMost (most + 1) (R.remaining input.old) (R.remaining input.new) }
-    ensures well { OnOk result ((R.failures input.new ≡ R.failures input.old)
-        × (W.failures output.new ≡ W.failures output.old)) }
-    ensures fault { IfErr result (IsDeviceFault (R.failures input.old) (R.failures input.new)
-        (W.failures output.old) (W.failures output.new)) }
+    ensures counted { AreCounted (R.failures input.old) (R.failures input.new)
+        (W.failures output.old) (W.failures output.new) result }
     ensures read { IsErrOf result RunFault.Read → output.new ≡ output.old }
     ensures stays { IsErrOf result RunFault.Read →
         Keeps (R.remaining input.old) (R.remaining input.new) }
@@ -138,10 +136,8 @@ fn answer_all<R: Source, W: Sink>(
         (IsWithin (point scribe.old) INPUT_LIMIT)) }
     ensures taken { GaveAtMost (INPUT_LIMIT + 1) (R.remaining input.old)
         (R.remaining input.new) }
-    ensures well { OnOk result ((R.failures input.new ≡ R.failures input.old)
-        × (W.failures output.new ≡ W.failures output.old)) }
-    ensures fault { IfErr result (IsDeviceFault (R.failures input.old) (R.failures input.new)
-        (W.failures output.old) (W.failures output.new)) }
+    ensures counted { AreCounted (R.failures input.old) (R.failures input.new)
+        (W.failures output.old) (W.failures output.new) result }
     ensures read { IsErrOf result RunFault.Read → ReadSome (R.remaining input.old)
         (R.remaining input.new) (W.contents output.old) (W.contents output.new)
         (λ given. (coming false (point scribe.old) given).text) }

@@ -1,12 +1,13 @@
 //! A boat's row of a table.
 
 ghost use Rattle.std.specs.Prelude.{◌≡◌, ◌≤◌, ◌<◌, ◌++◌, ◌+◌, ◌∷◌, [], map, take, length, vec_len};
-ghost use Rattle.std.specs.Prelude.{vec_capacity, OnOk, OnErr, IfOk};
+ghost use Rattle.std.specs.Prelude.{vec_capacity, OnErr, IfOk};
 ghost use Rattle.std.specs.List.{join_with_byte};
 ghost use Rattle.regatta_terms.specs.Entries.{points_text};
 ghost use Rattle.regatta_terms.specs.Words.{spaced};
 ghost use Rattle.regatta_tables.specs.Lines.{line};
 ghost use Rattle.regatta_tables.specs.TableTexts.{row_words, cell_text, rank_text};
+ghost use Rattle.regatta_tables.specs.Written.{Pushed};
 
 use crate::cells::{CELL_ROOM, put_cell};
 use crate::page::{put, put_number, put_piece, put_points};
@@ -120,12 +121,8 @@ fn put_cells(
 /// Appends a boat's row, which is made on the page.
 pub(crate) fn push_row(row: &Row, page: &mut [u8], out: &mut Vec<u8>) -> Result<(), AllocError>
     requires page { length page.old ≡ PAGE_ROOM }
-    ensures ok { OnOk result (out.new.items ≡ out.old.items ++ line (row_words row.now)) }
-    ensures err { OnErr result (take (vec_len out.old) out.new.items ≡ out.old.items) }
+    ensures pushed { Pushed (line (row_words row.now)) out.old out.new result }
     ensures same { length page.new ≡ length page.old }
-    ensures room { vec_capacity out.old ≤ vec_capacity out.new }
-    ensures full { OnErr result (vec_capacity out.old
-        < vec_len out.old + length (line (row_words row.now))) }
 {
     let at = put_head(page, row);
     let at = put_cells(row.cells.as_slice(), page, at, out)?;

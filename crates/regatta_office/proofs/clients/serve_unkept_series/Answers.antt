@@ -20,7 +20,7 @@ returns-clause-done g c =
       table = subst (λ (start : Journal). PrintsTable c.in_ok-begin.begin.rules start old new)
           (c.in_ok-opened.ensures.journal ∙ c.as_slice-start.ensures)
           (subst (λ (rules : RulesParts). PrintsTable rules c.in_ok-opened.opened.entries old new)
-          c.in_ok-opened.ensures.rules c.in_ok-serve_office.ensures.table);
+          c.in_ok-opened.ensures.rules c.in_ok-serve_office.ensures.printed.table);
     })
 
 -- at most a table of the series, also if it isn't written to the end
@@ -33,7 +33,7 @@ returns-clause-at_most g c =
       c.in_ok-begin.begin.start,
       c.in_ok-begin.ensures,
       at_most_from _ _ _ _ old new c.in_ok-opened.ensures.rules
-          (c.in_ok-opened.ensures.journal ∙ c.as_slice-start.ensures) c.serve_office.ensures.at_most,
+          (c.in_ok-opened.ensures.journal ∙ c.as_slice-start.ensures) c.serve_office.ensures.printed.at_most,
     ))
 
 pub returns-in_err-serve_office-clause-at_most : goal.returns-in_err-serve_office-clause-at_most
@@ -45,7 +45,7 @@ returns-in_err-serve_office-clause-at_most g c =
       c.in_ok-begin.begin.start,
       c.in_ok-begin.ensures,
       at_most_from _ _ _ _ old new c.in_ok-opened.ensures.rules
-          (c.in_ok-opened.ensures.journal ∙ c.as_slice-start.ensures) c.serve_office.ensures.at_most,
+          (c.in_ok-opened.ensures.journal ∙ c.as_slice-start.ensures) c.serve_office.ensures.printed.at_most,
     ))
 
 -- nothing was written yet

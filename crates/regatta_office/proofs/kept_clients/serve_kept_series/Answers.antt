@@ -20,7 +20,7 @@ returns-clause-done g c =
       table = subst (λ (start : Journal). PrintsTable begin.rules start old new)
           (c.in_ok-opened.ensures.journal ∙ c.as_slice-start.ensures)
           (subst (λ (rules : RulesParts). PrintsTable rules c.in_ok-opened.opened.entries old new)
-          c.in_ok-opened.ensures.rules c.in_ok-serve_kept_office.ensures.table);
+          c.in_ok-opened.ensures.rules c.in_ok-serve_kept_office.ensures.printed.table);
     }
 
 -- at most a table of the series, also if it isn't written to the end
@@ -35,7 +35,7 @@ returns-clause-at_most g c =
       c.in_ok-series.ensures.begins,
       at_most_from _ _ _ _ old new c.in_ok-opened.ensures.rules
           (c.in_ok-opened.ensures.journal ∙ c.as_slice-start.ensures)
-          c.serve_kept_office.ensures.at_most,
+          c.serve_kept_office.ensures.printed.at_most,
     )
 
 pub returns-in_err-serve_kept_office-clause-at_most :
@@ -50,7 +50,7 @@ returns-in_err-serve_kept_office-clause-at_most g c =
       c.in_ok-series.ensures.begins,
       at_most_from _ _ _ _ old new c.in_ok-opened.ensures.rules
           (c.in_ok-opened.ensures.journal ∙ c.as_slice-start.ensures)
-          c.serve_kept_office.ensures.at_most,
+          c.serve_kept_office.ensures.printed.at_most,
     )
 
 -- nothing was written yet

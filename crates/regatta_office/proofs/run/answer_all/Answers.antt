@@ -18,8 +18,8 @@ loop-count-preserved g c =
     (arith, few, so_far) in
     record {
       most = omega (arith, so_far);
-      well_read = c.in-Ok-Some.ensures.well.0 ∙ c.loop-count.invariant.well_read;
-      well_written = c.in-Ok-Some.ensures.well.1 ∙ c.loop-count.invariant.well_written;
+      well_read = c.in-Ok-Some.ensures.counted.0 ∙ c.loop-count.invariant.well_read;
+      well_written = c.in-Ok-Some.ensures.counted.1 ∙ c.loop-count.invariant.well_written;
       talked = subst (λ (n : ℕ). Talked (g.R.Device.remaining c.args.input.now)
           (g.R.Device.remaining c.turn.new.input) (g.W.Device.contents c.args.output.now)
           (g.W.Device.contents c.turn.new.output) (point c.args.scribe.now) (point c.turn.new.scribe)

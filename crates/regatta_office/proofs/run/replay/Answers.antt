@@ -105,6 +105,5 @@ pub returns-clause-fault : goal.returns-clause-fault
 returns-clause-fault g c =
     writer_failed _ _ _ (g.W.Device.failures c.answer_all.new.output) _
     c.in-Err-print_final.fault c.scribe_fault.result c.scribe_fault.ensures
-    c.in_default.ensures.well.0 c.in_default.ensures.well.1
-    (λ is. c.in-Err-print_final.ensures.write (ap Err is))
-    (λ is. ap g.W.Device.failures (c.in-Err-print_final.ensures.silent (ap Err is)))
+    c.in_default.ensures.counted.0 c.in_default.ensures.counted.1
+    c.in-Err-print_final.ensures.writes

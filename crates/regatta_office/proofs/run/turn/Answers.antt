@@ -5,6 +5,7 @@ use Rattle.regatta_office.proofs.Streams.{talked_long, within_quit}
 use Rattle.regatta_office.specs.Coming.{Stops}
 use Rattle.regatta_office.specs.Scribes.{point}
 use Rattle.regatta_office.proofs.Results.{long_is_no_write, memory_is, read_is_no_write, write_is}
+use Rattle.regatta_office.proofs.Results.{writer_counted}
 use Rattle.regatta_office.proofs.run.turn.Goals as goal
 
 pub returns-in-Ok-true-clause-talked : goal.returns-in-Ok-true-clause-talked
@@ -100,3 +101,14 @@ returns-in-Err-take_all-clause-stays g c = λ is. read_is_no_write c.in-Err-take
 pub returns-in-Err-take_all-clause-long : goal.returns-in-Err-take_all-clause-long
 returns-in-Err-take_all-clause-long g c = λ is. long_is_no_write c.in-Err-take_all.fault
     c.scribe_fault-in-Err-take_all.result _ c.scribe_fault-in-Err-take_all.ensures is
+
+-- the calls of both devices are counted
+pub returns-in-Err-clause-counted : goal.returns-in-Err-clause-counted
+returns-in-Err-clause-counted g c =
+    writer_counted _ _ _ _ c.in-Err.fault c.scribe_fault.result c.scribe_fault.ensures
+    c.in-Ok.ensures.well c.in-Err.ensures.writes
+
+pub returns-in-Err-take_all-clause-counted : goal.returns-in-Err-take_all-clause-counted
+returns-in-Err-take_all-clause-counted g c =
+    writer_counted _ _ _ _ c.in-Err-take_all.fault c.scribe_fault-in-Err-take_all.result
+    c.scribe_fault-in-Err-take_all.ensures c.in-Ok.ensures.well c.in-Err-take_all.ensures.writes
