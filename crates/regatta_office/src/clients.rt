@@ -123,9 +123,19 @@ where
     let (office, passes) = opened.split::<N>()?;
     let mut door = door_of(rt, options)?;
     let served = serve_and_print(rt, alloc, &office, &mut door, passes, start, output);
-    let back = served.back?;
-    served.printed?;
-    Ok(back.len())
+    let Served {
+        back,
+        admitted: _,
+        printed,
+    } = served;
+    let back = match back {
+        Ok(back) => back,
+        Err(fault) => return Err(Complaint::from(fault)),
+    };
+    match printed {
+        Ok(()) => Ok(back.len()),
+        Err(fault) => Err(Complaint::from(fault)),
+    }
 }
 
 /// Serves the series that the options ask for without a kept file: opens its office, serves clients at
