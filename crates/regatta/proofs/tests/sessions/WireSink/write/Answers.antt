@@ -12,8 +12,8 @@ returns-in-Ok c = record {
   no_read = search rules;
 }
 
-pub returns : goal.returns
-returns c = record {
+pub returns-in-Err : goal.returns-in-Err
+returns-in-Err c = record {
   bound = search rules;
   some = search rules;
   bytes = search rules;

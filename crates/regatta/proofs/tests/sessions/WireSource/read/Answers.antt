@@ -12,8 +12,8 @@ returns-in-Ok c = record {
   read_failed = search rules;
 }
 
-pub returns : goal.returns
-returns c = record {
+pub returns-in-Err : goal.returns-in-Err
+returns-in-Err c = record {
   bound = search rules;
   bytes = search rules;
   keeps = search rules;
