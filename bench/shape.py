@@ -28,7 +28,7 @@ CRATES = Path("crates")
 # Crates that are there for tests alone. Modules of tests aren't counted in any crate.
 FOR_TESTS = {"regatta_trials"}
 TESTS = {"tests", "tests.rt"}
-DECIDED = "Command Line AskedLine DeskLine Step Change Revision NewScores Reply".split()
+DECIDED = "Command Line AskedLine DeskLine Step Change Update Reply".split()
 
 # Module: calls in it, in the order in which a FINISH first comes to the module.
 PATH = """
@@ -51,16 +51,17 @@ keeper/sealed: answer cover
 keeper/reply_room: with_text_of
 desk/answers: reply
 board/board: prepare stage commit touched row
-board/ledger: revision
-board/kept: number placed after is_scored revise
+board/ledger: update
+board/kept: number placed is_scored put_sheet
 board/refusals: act command_act finish of_system unplaced number is_placed
 board/act: on_sheet
 terms/roles: may
-scores/sheet: placed after order_after held_after seconds_after
+scores/sheet: placed after changed with_order with_places
 scores/groups: contains
 scores/orders: with_last
 terms/laws: parts_are_in_range
-board/scoring: new_scores scores_of_sheet remade_lines revise put_column put_changed touched
+board/update: of update_of_sheet move_in put_column put_changed
+board/scoring: remade_lines touched
 board/column: made_column
 watch/publication: new absorb_first
 watch/publisher: append publish
@@ -112,6 +113,12 @@ def is_definition(line: str) -> bool:
     return bool(line.strip()) and not line.strip().startswith("--")
 
 
+def is_closed(contract: list[str]) -> bool:
+    """Whether no clause is open: a `;` then ends a function that has no body."""
+    text = "\n".join(contract)
+    return text.count("{") == text.count("}")
+
+
 def function_at(crate: str, module: str, lines: list[str], at: int) -> Function | None:
     """The function whose head begins at this line."""
     head = HEAD.match(lines[at])
@@ -126,7 +133,7 @@ def function_at(crate: str, module: str, lines: list[str], at: int) -> Function 
             return found
         if CLAUSE.match(line) or found.contract:
             found.contract += [line] if line.strip() else []
-        if line.endswith(";"):
+        if line.endswith(";") and is_closed(found.contract):
             return found
         at += 1
     for line in lines[at + 1:]:

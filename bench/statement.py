@@ -295,7 +295,8 @@ class Specs:
         head, _, rest = text.partition("where")
         words = tokens(head)
         found |= set(cited_names(words[words.index(item.key[2]) + 1:], scope))
-        indent = len(head) - len(head.lstrip()) + 2
+        first = next((line for line in rest.splitlines() if line.strip()), "")
+        indent = len(first) - len(first.lstrip())
         for part in re.split(rf"\n(?= {{{indent}}}(?:pub )?\S+ : )", rest):
             words = tokens(part.strip().removeprefix("pub "))
             if words:

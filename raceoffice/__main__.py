@@ -1,6 +1,18 @@
-"""Runs the race office as `python3 -m raceoffice`."""
+"""Runs the race office as `python3 -m raceoffice`, and as the command of an installation."""
 import sys
 
-from raceoffice.cli import main
 
-sys.exit(main())
+def main() -> int:
+    """Does what the command line asks for; the status. Ctrl-C ends it quietly also while the package is being loaded."""
+    try:
+        from raceoffice import interruption
+        interruption.end_quietly()
+        from raceoffice import cli
+        return cli.main()
+    except KeyboardInterrupt:
+        # What `interruption` has, which may not be there yet
+        return 130
+
+
+if __name__ == "__main__":
+    sys.exit(main())

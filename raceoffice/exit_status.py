@@ -7,11 +7,9 @@ import sys
 from collections.abc import Callable
 
 from raceoffice.errors import Trouble, Unheard
+from raceoffice.interruption import INTERRUPTED, heard
 from raceoffice.terminal import say, say_json, say_no_more, sentence, take_any_sign
 from raceoffice.traces import guarded
-
-# What a shell says of a command that Ctrl-C has ended.
-INTERRUPTED = 130
 
 
 def need_folder_here() -> None:
@@ -34,7 +32,7 @@ def status_of(work: Callable[[], int], folder: str = "", tell: Callable[[str], N
     take_any_sign()
     try:
         try:
-            with guarded(folder, BrokenPipeError, Unheard):
+            with heard(), guarded(folder, BrokenPipeError, Unheard):
                 need_folder_here()
                 return work()
         except Trouble as trouble:

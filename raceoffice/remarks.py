@@ -31,6 +31,7 @@ ENGLISH: dict[str, str | tuple[str, str] | tuple[str, str, str]] = {
     "some-lines": ("{n} line", "{n} lines", "no lines"),
     "office-rules-were": "The rules were: {rules}",
     "office-rules-now": "They are now: {rules}",
+    "office-rules-kept": "The office goes on with the old rules. Those of series.ini wait until somebody agrees to them.",
     "office-move": "   {words}",
     "office-shut": "The office lets nobody in any more. Close it by Ctrl-C, and open it again.",
     "office-crashed": "The office wasn't closed properly last time. Its old socket has been removed.",
@@ -189,6 +190,8 @@ ENGLISH: dict[str, str | tuple[str, str] | tuple[str, str, str]] = {
     "file-odd-name": "{name!r} can't be the name of a file",
     "taps-long": "{name} is longer than {most} bytes. When no device holds taps any more, move it to another folder, and serve "
                  "the class again. A tap that a device sends again after that may be done twice, and no page can undo earlier taps",
+    "taps-replaced": "{name} was replaced, or somebody has written into it, while the class was served: taps wait until it is "
+                     "opened again",
     "file-long": "{name} is longer than {most} bytes",
     "file-not-utf8": "{name} isn't UTF-8 text: save it as UTF-8",
     "why-unplain": "it is no plain file",
@@ -446,7 +449,8 @@ ENGLISH: dict[str, str | tuple[str, str] | tuple[str, str, str]] = {
     "name-no-text": "her {key} isn't a text",
     "name-long": "her {key} has more than {most} letters",
     "name-no-column": "the entry list has no column for her {key}",
-    "rating-form": "her rating is {written}. It has to be a number, as 1050 or 0.953",
+    "rating-form": "her rating is {written}, which isn't one of the class's system. PY is a whole number, as 1050; TCF is as 0.953; TOD is "
+                   "in seconds a mile, as 612.5",
     "no-series-beside": "there is no such series that isn't open already: look again",
     "stick-gone": "that stick isn't in any more: look again",
     "reason-long": "the reason has more than {most} letters",

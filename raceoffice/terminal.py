@@ -22,6 +22,8 @@ HIDDEN = {"Cc", "Cf", "Zl", "Zp"}
 # Clears the rest of a line.
 CLEARED = "\x1b[K"
 YES_OR_NO = "   Type y for yes, or n for no."
+# Seconds between two looks whether an answer is still waited for.
+LOOK = 0.1
 # What windows that outlive their terminal have said, and it hasn't taken; how many signs it is given at once.
 UNSAID: collections.deque[str] = collections.deque(maxlen=1000)
 PIECE = 500
@@ -72,6 +74,12 @@ def take_any_sign() -> None:
     for stream in (sys.stdin, sys.stdout):
         if isinstance(stream, io.TextIOWrapper):
             stream.reconfigure(errors="replace")
+
+
+def as_put_out(text: str) -> str:
+    """A text as it is printed, with `?` for each sign that the terminal's encoding lacks."""
+    encoding = sys.stdout.encoding or "utf-8"
+    return text.encode(encoding, "replace").decode(encoding)
 
 
 def put_out(text: str) -> None:
@@ -138,10 +146,10 @@ def say_no_more() -> None:
     os.close(nowhere)
 
 
-def width() -> int:
-    """The columns of the terminal; 0 if they aren't known."""
+def width(untold: int = 0) -> int:
+    """The columns of the terminal, `untold` if it doesn't tell them, and 0 if there is none."""
     try:
-        return os.get_terminal_size(sys.stdout.fileno()).columns
+        return os.get_terminal_size(sys.stdout.fileno()).columns or untold
     except (OSError, ValueError):
         return 0
 
@@ -173,21 +181,30 @@ def sentence(text: object) -> str:
     return one.in_words(words) if isinstance(one, Remark) else words
 
 
-def typed(text: str) -> str | None:
-    """What somebody types to a question; None at the end of the input, and after Ctrl-C."""
+def typed(text: str, is_over: Callable[[], bool] | None = None) -> str | None:
+    """What somebody types to a question; None at the end of the input, after Ctrl-C, and once it `is_over`."""
     try:
         *lines, asked = wrapped(text).split("\n")
         for line in lines:
             print(line)
-        if sys.stdin.isatty():
+        if sys.stdin.isatty() and is_over is None:
             return input(asked).strip()
         print(asked, end="", flush=True)
-        given = TYPED.line() or ""
+        given = line_before(is_over) if is_over else TYPED.line() or ""
     except (EOFError, KeyboardInterrupt):
         print(flush=True)
         return None
-    say(given)
+    if not sys.stdin.isatty():
+        say(given)
     return given
+
+
+def line_before(is_over: Callable[[], bool]) -> str:
+    """The next line that is typed; EOFError if it is over before."""
+    while not is_over():
+        if (given := TYPED.line(LOOK)) is not None:
+            return given
+    raise EOFError
 
 
 def is_yes(given: str, default: bool = False) -> bool | None:
@@ -200,11 +217,12 @@ def answer(text: str) -> str:
     return typed(text) or ""
 
 
-def question(text: str, yes: bool = False, tell: Callable[[str], None] = lambda given: None) -> bool:
+def question(text: str, yes: bool = False, tell: Callable[[str], None] = lambda given: None,
+             is_over: Callable[[], bool] | None = None) -> bool:
     """Whether somebody says yes. Enter alone is the capital letter. Ctrl-C and the end of the input are
-    no, and whatever is neither yes nor no is told, and asked again."""
+    no, and so is a question that `is_over`. Whatever is neither yes nor no is told, and asked again."""
     asked = f"{text} [{'Y/n' if yes else 'y/N'}] "
-    while (given := typed(asked)) is not None:
+    while (given := typed(asked, is_over)) is not None:
         meant = is_yes(given, yes and sys.stdin.isatty())
         if meant is not None:
             return meant

@@ -12,10 +12,12 @@ import zoneinfo
 # Not those of the computer's language: the pages are in English.
 DAYS = ["Mon", "Tue", "Wed", "Thu", "Fri", "Sat", "Sun"]
 MONTHS = ["Jan", "Feb", "Mar", "Apr", "May", "Jun", "Jul", "Aug", "Sep", "Oct", "Nov", "Dec"]
+# The form of a time zone's name, as Europe/Lisbon: others aren't looked up, since each part takes Python a step further down
+ZONE = re.compile(r"[A-Za-z][\w+-]{0,40}(?:/[\w+-]{1,40}){0,2}", re.ASCII)
 # Seconds of a week, in which no clock is changed twice.
 WEEK = 7 * 86400
-# The most minutes that a zone is from UTC.
-MOST = 14 * 60
+# The most minutes that a computer's clock is from UTC: Python knows none that is a day from it. A zone in use has 14 hours.
+MOST = 24 * 60 - 1
 # The end of a moment in words: `CET (UTC+1)`, `UTC+5:30` or `UTC`.
 END = re.compile(r"[0-9] (?:([A-Za-z]{3,6}) \()?UTC(?:([+-])([0-9]{1,2})(?::([0-9]{2}))?)?\)?")
 # The file with this computer's zone, a link to one of its name; one with that name; and the most that is read of that
@@ -27,7 +29,7 @@ UNNAMED = re.compile("localtime|posixrules|Factory|(?:posix|right)/.*")
 def is_name(text: str) -> bool:
     """Whether this is the name of a time zone, which is the same zone on each computer."""
     try:
-        return not UNNAMED.fullmatch(text) and bool(zoneinfo.ZoneInfo(text))
+        return bool(ZONE.fullmatch(text)) and not UNNAMED.fullmatch(text) and bool(zoneinfo.ZoneInfo(text))
     except (OSError, ValueError, zoneinfo.ZoneInfoNotFoundError):
         return False
 
@@ -42,11 +44,19 @@ def all_zones() -> tuple[zoneinfo.ZoneInfo, ...]:
     return tuple(zoneinfo.ZoneInfo(name) for name in sorted(zoneinfo.available_timezones()) if is_name(name))
 
 
+def in_zone(moment: datetime.datetime, zone: datetime.tzinfo | None = None) -> datetime.datetime:
+    """A moment by the clock of a zone; None is this computer's. If that is a day or more from UTC, it is by UTC."""
+    try:
+        return moment.astimezone(zone)
+    except ValueError:
+        return moment.astimezone(datetime.timezone.utc)
+
+
 def changes_of(zone: datetime.tzinfo | None, now: datetime.datetime) -> list[list[int]]:
     """Since when the clock of a zone is ahead of UTC, and by how much, both in milliseconds, from the beginning of the year
     before `now` to the end of the year after; None is this computer's zone."""
     def ahead(at: int) -> datetime.timedelta:
-        return datetime.datetime.fromtimestamp(at, datetime.timezone.utc).astimezone(zone).utcoffset() or datetime.timedelta()
+        return in_zone(datetime.datetime.fromtimestamp(at, datetime.timezone.utc), zone).utcoffset() or datetime.timedelta()
     first, last = (int(datetime.datetime(year, 1, 1, tzinfo=datetime.timezone.utc).timestamp()) for year in (now.year - 1, now.year + 2))
     found = [(first, ahead(first))]
     for at in range(first + WEEK, last, WEEK):
@@ -91,24 +101,24 @@ def has_name(local: datetime.datetime) -> bool:
 
 
 def moment_text(local: datetime.datetime) -> str:
-    """A local time with its zone and the hours from UTC, as `Thu 26 Nov 2026, 08:52 WET (UTC+0)`."""
+    """A local time with its zone and the hours from UTC, as `Thu 26 Nov 2026, 08:52 WET (UTC+0)`. A zone that is named by
+    a number has only the hours, and is UTC if they are none."""
     offset, name = local.strftime("%z"), local.tzname() or ""
     minutes = f":{offset[3:5]}" if offset[3:5] != "00" else ""
     hours = f"UTC{offset[0]}{int(offset[1:3])}{minutes}"
     is_number = not name or name[0] in "+-" or name.startswith("UTC")
-    zone = "UTC" if name == "UTC" else hours if is_number else f"{name} ({hours})"
+    zone = f"{name} ({hours})" if not is_number else "UTC" if offset[1:5] == "0000" else hours
     day = f"{DAYS[local.weekday()]} {local.day} {MONTHS[local.month - 1]} {local.year}"
     return f"{day}, {local:%H:%M} {zone}"
 
 
 def of_computer(moment: datetime.datetime) -> str:
-    """A moment in this computer's zone. A name that no time zone has is left out."""
-    local = moment.astimezone()
-    return moment_text(local if has_name(local) else without_name(local))
-
-
-def without_name(local: datetime.datetime) -> datetime.datetime:
-    return local.astimezone(datetime.timezone(local.utcoffset() or datetime.timedelta()))
+    """A moment in this computer's zone. A name that no time zone has is left out, and so are the seconds that a clock is from
+    UTC: who reads the words can't know them."""
+    local = in_zone(moment)
+    minutes = int((local.utcoffset() or datetime.timedelta()).total_seconds() / 60)
+    whole = datetime.timezone(datetime.timedelta(minutes=minutes))
+    return moment_text(local if local.utcoffset() == whole.utcoffset(None) and has_name(local) else local.astimezone(whole))
 
 
 def is_of_some_computer(text: str, moment: datetime.datetime) -> bool:

@@ -13,6 +13,8 @@ from typing import Any
 from browser import Browser
 
 PATIENCE = 90.0
+# What a page says of a script that takes an element for there that isn't.
+ABSENT = "Cannot read properties of null"
 
 
 # No tab waits for another: each is a device that somebody holds.
@@ -90,7 +92,17 @@ class Device:
         return self.chromium.ask(method, **values)
 
     def run(self, script: str) -> Any:
-        """What a script of the page gives."""
+        """What a script of the page gives. One that needs an element which isn't drawn yet is run again until it is."""
+        end = time.monotonic() + PATIENCE
+        while True:
+            try:
+                return self.run_once(script)
+            except AssertionError as cause:
+                if ABSENT not in str(cause) or time.monotonic() > end:
+                    raise
+            time.sleep(0.02)
+
+    def run_once(self, script: str) -> Any:
         self.chromium.session = self.session
         return self.chromium.run(script)
 
@@ -109,7 +121,7 @@ class Device:
         end = time.monotonic() + patience
         while True:
             try:
-                if found := self.run(script):
+                if found := self.run_once(script):
                     return found
                 why = repr(found)
             except AssertionError as cause:

@@ -51,6 +51,18 @@ class Declared(helpers.Series):
         self.assertEqual(helpers.run("final", "cup", cwd=self.here),
                          ("The results of cup are final.\n", 0))
 
+    def test_rules_that_wait(self) -> None:
+        """Rules that were saved and aren't in force are named before results by others are final."""
+        self.open()
+        self.send(*RACES)
+        self.write(self.text("cup", "series.ini").replace("exclude = 2", "exclude = none"), "cup", "series.ini")
+        window = self.window("final", "cup")
+        self.assertEqual(window.read(r"\[y/N\] $"), (
+            "Not in force until the office is opened with the new rules: exclude = none.\n"
+            "Are the results final all the same? [y/N] "))
+        window.type("y")
+        self.assertEqual(window.rest(), ("The results of cup are final.\n", 0))
+
     def test_without_a_name(self) -> None:
         """A late boat that the list lacks is named before the results are final; in a list of sails alone
         nobody has a name."""

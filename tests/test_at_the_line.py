@@ -11,6 +11,7 @@ from typing import Any
 from unittest import mock
 
 from helpers import PATIENCE
+from raceoffice.errors import NotNow
 from raceoffice.series.kept_places import Places
 from raceoffice.session.abandon import is_sent
 from raceoffice.session.dialogue import Question
@@ -177,12 +178,31 @@ class AtTheLine(OnWater):
         waited = [call.args[1] for call in took.call_args_list if call.args[1] in (0.0, 0.5)]
         self.assertEqual(waited, [0.5, 0.0, 0.0, 0.0])
         self.between(lambda: self.types(1, "?1 gbr 7"), lambda: self.sends(1, "FINISH 1 NED12"), False)
-        self.between(lambda: self.sends(2, "?1 2 GBR7"), lambda: self.types(2, "ned 12"), False)
-        for race in (1, 2):
-            self.has(race, "GBR101 GBR7 NED12")
-            self.assertEqual([line for line in self.commands() if line.split()[1] == str(race)][1:], [
-                f"FINISH {race} NED12", f"FINISH {race} GBR7", f"STRIKE {race} GBR7", f"BEFORE {race} GBR7 NED12"])
-            self.assertEqual(self.shown(race)["unread"], [])
+        self.has(1, "GBR101 GBR7 NED12")
+        self.assertEqual([line for line in self.commands() if line.split()[1] == "1"][1:], [
+            "FINISH 1 NED12", "FINISH 1 GBR7", "STRIKE 1 GBR7", "BEFORE 1 GBR7 NED12"])
+        self.assertEqual(self.shown(1)["unread"], [])
+
+    def test_tap_beside_a_stopped_window(self) -> None:
+        """A tap by which a boat comes to a place in the order waits for a window that was stopped: that may send a line in
+        between, and the web be killed before it has put the boat right. A finish doesn't wait."""
+        self.sends(2, "FINISH 2 GBR101", "? 2", "FINISH 2 FRA9")
+        struck = self.ann.send(2, "STRIKE 2 FRA9")
+        assert struck is not None
+        lock = os.open(self.room.folder.file("office", "line.lock"), os.O_RDWR | os.O_CREAT)
+        fcntl.flock(lock, fcntl.LOCK_EX)
+        taps = [Tap.read({"id": new_id(), **values}) for values in
+                ({"line": "?1 2 GBR7"}, {"line": "UNDO", "undoes": struck["id"]}, {"line": "FINISH 2 FRA9", "undoes": struck["id"]})]
+        before = self.commands()
+        for tap in taps:
+            with self.subTest(tap.line), self.assertRaises(NotNow):
+                self.room.do("FINISH", "Ann", tap)
+        self.assertEqual(self.commands(), before)
+        self.sends(2, "FINISH 2 NED12")
+        os.close(lock)
+        self.assertEqual([self.room.do("FINISH", "Ann", tap)["outcome"] for tap in taps[:2]], ["taken", "taken"])
+        self.has(2, "GBR101 GBR7 FRA9 NED12")
+        self.assertEqual(self.shown(2)["unread"], [])
 
     def test_undo_is_overtaken(self) -> None:
         """Others go on without a window that was stopped between its look and its undo: the boat whose line back is

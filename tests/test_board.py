@@ -328,7 +328,7 @@ class Boards(helpers.Series):
         self.assertIn('data-live="no"', shown)
         text = self.text("fast", "series.ini")
         self.write(text.replace("exclude = 2", "exclude = none"), "fast", "series.ini")
-        window.read("fast: series.ini has other rules than the open office")
+        window.read("fast: series.ini has other rules than the last opening of the office")
         self.assertIn("one from 2 races", self.get("/fast/").data.decode())
         self.write(text.replace("exclude = 2", "exclud = 2"), "fast", "series.ini")
         window.read(r"fast: series.ini, line \d+: \[rules\] has no key 'exclud'")

@@ -49,7 +49,7 @@ BAD = [
 # How programs and clubs head their lists, and the columns that aren't read.
 HEADED = [
     ("SailNo,HelmName,CrewName,Boat,Class,Club,Fleet,PY", ["CrewName", "Class", "Fleet"]),
-    ("Segelnummer;Steuermann;Vorschoter;Bootsname;Verein;Yardstickzahl", ["Vorschoter"]),
+    ("Segelnummer;Steuermann;Vorschoter;Bootsname;Verein;Yardstickzahl", ["Vorschoter", "Yardstickzahl"]),
     ("Segel-Nr.\tSteuermann/-frau\tSchiff\tSegelclub\tBootsklasse\tRating", ["Bootsklasse"]),
     ("N° de voile;Barreur;Équipier;Bateau;Club;TCF", ["Équipier"]),
     ("Numéro de voile,Nom du barreur,Nom du bateau,Nom du club,Rating", []),
@@ -130,7 +130,8 @@ class Entries(unittest.TestCase):
             for text in (boat.helm, boat.name, boat.club):
                 self.assertRegex(text, "^x [0-9]$", line)
             self.assertEqual(entry_list.columns_left(data), left, line)
-            self.assertEqual(len(headings.rating_columns(read_list.table_of(data).heads)), 1, line)
+            # A German Yardstick number isn't a Portsmouth number.
+            self.assertEqual(len(headings.rating_columns(read_list.table_of(data).heads)), "Yardstick" not in line, line)
 
     def test_each_heading(self) -> None:
         """Every heading of the table is found, alone, and in capitals with spaces and dots."""

@@ -3,13 +3,18 @@ says and how long it takes."""
 from __future__ import annotations
 
 import contextlib
+import dataclasses
+import gc
 import html
 import io
 import os
 import random
 import re
+import subprocess
+import sys
 import time
 import tracemalloc
+import unicodedata
 import unittest
 import unittest.mock
 from typing import Any
@@ -17,11 +22,14 @@ from typing import Any
 import helpers
 
 from allowed import odd_parts
-from forger import ForgedPages, Forger, Path, put, resealed, seals, whole_of
+from forger import ForgedPages, Forger, Path, journal_of, put, resealed, seals, whole_of
 from raceoffice.errors import ForeignPage, Unsure
+from raceoffice.program import replay
+from raceoffice.results.html.listing import listing
 from raceoffice.results.html.notice_board import results as notice
 from raceoffice.results.html.overall import overall
 from raceoffice.results.html.page import confirmed
+from raceoffice.results.snapshot import Snapshot, labels_of, told_apart
 from raceoffice.verify import own_words, page_data, verifier, visible
 
 ANOTHER = ('<div class="scroll"><table><tr><td>1</td><th class="sail">GBR 33</th><td>2.0</td></tr></table>'
@@ -44,7 +52,7 @@ STAMPS: list[tuple[str, object]] = [
     ("every", 0), ("every", 3601), ("every", -5), ("every", "5"), ("every", True), ("every", 5.0)]
 # A page of a series without a zone has the words of some computer's.
 OWN_ZONE: list[tuple[str, object]] = [
-    ("when", text) for text in ("Sun 1 Mar 2026, 10:00 JURY (UTC+0)", "Mon 2 Mar 2026, 01:00 UTC+15",
+    ("when", text) for text in ("Sun 1 Mar 2026, 10:00 JURY (UTC+0)", "Mon 2 Mar 2026, 10:00 UTC+24",
                                 "Fri 13 Mar 2026, 10:00 UTC", "1 Mar 2026, 10:00 UTC", "10:00 UTC",
                                 "Sun 1 Mar 2026, 10:00 UTC. GBR 7 WINS")]
 CONFIRMATIONS = [("2099-01-01T00:00:00+00:00", "open"), ("2026-03-01T10:00:00+00:00", "gone"),
@@ -52,8 +60,14 @@ CONFIRMATIONS = [("2099-01-01T00:00:00+00:00", "open"), ("2026-03-01T10:00:00+00
                  ("2026-03-01T10:00:00+00:00", "")]
 # How a sail may not be shown: another's, with signs that aren't seen, with a note, turned, struck out.
 SHOWN = ["GBR 33", "GBR\u200b101", "GBR 101\u200d", "", " ", "GBR 101 (DSQ, see notice 4)", "\u202e101 RBG",
-         "G\u0336B\u0336R\u0336 101", "GBR  101", "GBR 101 ", "ＧBR 101", "GBR\u00a0101", "GBR101\n"]
+         "G\u0336B\u0336R\u0336 101", "GBR  101", "GBR 101 ", "ＧBR 101", "GBR\u00a0101", "GBR101\n", "gbr 101",
+         "GBr 101"]
 ESC = "\x1b[2K\x1b[1Aresults.html: verified.\n   Scored again, every cell is the same.\x1b[8m"
+# Classes and folders of which some are called as others are together
+CLASSES = ["x", "x (x)", "x  (x)", "x (x) (x)", "x (y)", "", "Zo\u00eb", "Zoe\u0308", "Zo\u00eb (\u00fc)", "Zo\u00eb\u3000\uff08\u00fc\uff09"]
+FOLDERS = ["x", "y", "x) (x", "x)  (x", "x) (y", "x%29%20%28x", " x", "x ", "x x", "x  x", "x%20x", "\u00fc", "u\u0308", "\uff08x", "K",
+           "\u212a"]
+TITLES = ["Cup", "Cup", "Cup: x", "Cup:  x (x)", "x", "Zoe\u0308"]
 # What references are made of, and what looks like one.
 REFERENCES = ["&", "&amp;", "&#x27;", "&quot;", "&lt;", "&gt;", "&lt", "&amp", "#x27;", "amp;", "lt;", "&#39;", "&not", "it", ";", "&#",
               "x", "'", "<", " ", "a" * 30]
@@ -178,13 +192,14 @@ class Forgeries(ForgedPages):
         """A program is a SHA-256, a folder has a name, and settings are in plain signs."""
         for path, values in [
                 (("program",), ["x", "0" * 63, "0" * 65, "g" * 64, "0" * 64 + "\n", "A" * 64]),
-                (("name",), ["", ".", "..", "a/b", "/", "a\0"]),
+                (("name",), ["", ".", "..", "a/b", "/", "a\0", "a" * 256, "é" * 128]),
                 (("settings", "exclude"), ["٢", "2,٤", "2\n", "1", "", "--help", "2, 4"]),
                 (("settings", "scp"), ["٣", "0", "100", "-1", "1.5", " 1"]),
                 (("settings", "absent"), ["a54", "", "A52"]), (("settings", "handicap"), ["", "Yes", "true"]),
                 (("settings", "state"), ["", "Final", "final now"]), (("settings", "title"), [""]),
                 (("settings", "zone"),
-                 ["localtime", "Mars/Base", "../UTC", "/etc/passwd", "UTC\0", "Europe", "x" * 9000])]:
+                 ["localtime", "Mars/Base", "../UTC", "/etc/passwd", "UTC\0", "Europe", "x" * 9000, "a/" * 3000 + "x",
+                  "." * 300 + "/x", "a." * 3000 + "/x"])]:
             for value in values:
                 with self.subTest(path=path, value=value[:20]):
                     self.why(self.forged("results", ("series", 0, *path), value))
@@ -203,7 +218,7 @@ class Forgeries(ForgedPages):
     # Under another seal
 
     def test_sails(self) -> None:
-        """A sail is shown as the journal has it, but for spaces and small letters."""
+        """A sail is shown as the journal has it, apart from spaces: a small letter may look as another's capital."""
         for shown in SHOWN:
             with self.subTest(shown=shown):
                 self.assertIn("the sail GBR101 is shown as", self.why(
@@ -212,7 +227,7 @@ class Forgeries(ForgedPages):
             "results", ("series", 0, "boats", 0), ["GBR7", "GBR 7", "A. Moss", "", ""])))
         self.assertIn("is no sail", self.why(self.forged(
             "results", ("series", 0, "boats", 0), ["", "", "A. Moss", "", ""])))
-        for shown in ("gbr 101", "GBR101", "G B R 1 0 1"):
+        for shown in ("GBR101", "G B R 1 0 1"):
             self.assertTrue(self.is_verified(
                 self.forged("results", ("series", 0, "boats", 0, 1), shown)))
 
@@ -253,6 +268,83 @@ class Forgeries(ForgedPages):
             with self.assertRaisesRegex(Unsure, "^its series take longer than 300 seconds to score$"):
                 verifier.Verifier(helpers.PROGRAM, now).verified(self.made["both"])
             self.assertEqual(looks, late + 1)
+
+    def test_classes_of_one_name(self) -> None:
+        """Classes that are called the same are told apart by their folders, so that each seal is one's own."""
+        made = self.forged("both", ("series", 1, "settings", "class"), "A <b>")
+        status, said = self.said(made)
+        self.assertEqual(status, 0)
+        lines = [line for line in said.splitlines() if line.startswith(("   Class", "   Seal"))]
+        for at, (name, seal) in enumerate(zip(("fleet", "tide"), seals(made))):
+            self.assertTrue(lines[2 * at].startswith(f"   Class 'A <b> ({name})': 4 boats"), lines)
+            self.assertEqual(lines[2 * at + 1], f"   Seal {seal}")
+
+    def called(self, *series: tuple[str, str], titles: tuple[str, ...] = ()) -> list[Snapshot]:
+        """Series with these folders, classes and titles."""
+        own = self.tide.settings
+        return [dataclasses.replace(self.tide, name=name, settings=dataclasses.replace(own, group=group, title=title))
+                for (name, group), title in zip(series, titles or (own.title,) * len(series))]
+
+    def test_class_with_a_folder(self) -> None:
+        """A class may be called as another is with its folder: all are told apart nevertheless, in each list and heading."""
+        views = self.called(("a", "Dragon (x)"), ("x", "Dragon"), ("c", "Dragon"))
+        wanted = ["Dragon (x) (a)", "Dragon (x)", "Dragon (c)"]
+        self.assertEqual(labels_of(views), wanted)
+        page, front = notice(views), confirmed(listing(views), "2026-03-01T10:00:00+00:00", "open")
+        for text, form in ((page, '<li><a href="#c[0-9]-class">(.*?)</a>'),
+                           (page, "<h1><small>[^<]*</small>Autumn Cup: (.*?)</h1>"), (page, "Overall results, (.*?): "), (page, "Rank after each race, (.*?)</caption>"),
+                           (front, '<h2><a href="[^"]*">(.*?)</a>')):
+            self.assertEqual(re.findall(form, text), wanted, form)
+        for text in (page, front):
+            status, said = self.said(text)
+            self.assertEqual(status, 0, said)
+            self.assertEqual(re.findall("Class '(.*?)': ", said), wanted)
+
+    def test_classes_at_random(self) -> None:
+        """Whatever titles, classes and folders are called, no two series are called the same or have the same heading, nor
+        would with fewer spaces or with other signs that look alike."""
+        chosen = random.Random(11)
+        for _ in range(helpers.trials(2000)):
+            series = [(name, chosen.choice(CLASSES)) for name in chosen.sample(FOLDERS, chosen.randint(2, len(FOLDERS)))]
+            views = told_apart(self.called(*series, titles=tuple(chosen.choice(TITLES) for _ in series)))
+            for texts in ([view.label for view in views], [view.title for view in views]):
+                self.assertEqual(len({" ".join(unicodedata.normalize("NFKC", text).split()) for text in texts}), len(views), (series, texts))
+            self.assertEqual(labels_of(views), [view.label for view in views])
+
+    def test_headings(self) -> None:
+        """A title may be as that of another with her class: they are told apart in their headings, too."""
+        views = self.called(("a", ""), ("b", "Dragon"), ("c", "Star"), titles=("Autumn: Dragon", "Autumn", "Autumn"))
+        self.assertEqual(labels_of(views), ["Autumn: Dragon (a)", "Dragon (b)", "Star"])
+        self.assertEqual(re.findall("<h1><small>[^<]*</small>(.*?)</h1>", notice(views)),
+                         ["Autumn: Dragon (a)", "Autumn: Dragon (b)", "Autumn: Star"])
+        status, said = self.said(notice(views))
+        self.assertEqual(status, 0, said)
+
+    def test_letters_that_look_alike(self) -> None:
+        """A letter with its mark is as both in one sign, and a Kelvin sign is a K: what looks the same is told apart by folders."""
+        views = self.called(("a", "Zo\u00eb Kiel"), ("b", "Zoe\u0308 Kiel"), ("c", "Zo\u00eb \u212aiel"), ("d", "Zoe Kiel"))
+        self.assertEqual(labels_of(views), ["Zo\u00eb Kiel (a)", "Zoe\u0308 Kiel (b)", "Zo\u00eb \u212aiel (c)", "Zoe Kiel"])
+        self.assertEqual(labels_of(self.called(("\u00fc", "x"), ("u\u0308", "x"))), ["x (\u00fc)", "x (u%CC%88)"])
+        status, said = self.said(notice(views))
+        self.assertEqual(status, 0, said)
+
+    def test_classes_on_a_poor_terminal(self) -> None:
+        """Classes that the terminal's letters don't tell apart have their places on the page said."""
+        path = os.path.join(self.here, "page.html")
+        self.write(notice(self.called(("a", "Gr\u00f6\u00dfe"), ("b", "Gr\u00fc\u00dfe"), ("c", "Gr\u00f6\u00dfte"))), path)
+        for encoding, wanted in (("ascii", ["Class 1 of the page, 'Gr??e'", "Class 2 of the page, 'Gr??e'", "Class 'Gr??te'"]),
+                                 ("utf-8", ["Class 'Gr\u00f6\u00dfe'", "Class 'Gr\u00fc\u00dfe'", "Class 'Gr\u00f6\u00dfte'"])):
+            done = subprocess.run([sys.executable, "-m", "raceoffice", "verify", path, "--program", helpers.PROGRAM], cwd=helpers.TOP,
+                                  capture_output=True, env={**os.environ, "PYTHONIOENCODING": encoding, "PYTHONUTF8": "0"}, check=True)
+            self.assertEqual(re.findall("   (Class .*?): 4 boats", done.stdout.decode(encoding)), wanted)
+
+    def test_long_classes(self) -> None:
+        """If what is shown of two classes' names is the same, their places on the page are said."""
+        for name, shown in (("x" * 70, ["Class 1 of the page, 'x", "Class 2 of the page, 'x"]),
+                            ("x", ["Class 'x (a)'", "Class 'x (b)'"])):
+            said = self.said(notice(self.called(("a", name), ("b", name))))[1]
+            found = [line.strip() for line in said.splitlines() if line.startswith("   Class ")]
+            self.assertEqual([line.startswith(start) for line, start in zip(found, shown)], [True] * 2, said)
 
     def test_seal_of_another(self) -> None:
         """The seal of an honest page on one of another journal is found."""
@@ -392,6 +484,18 @@ class Forgeries(ForgedPages):
         self.assertIn("the page is longer than the right one", said)
         self.assertLess(tracemalloc.get_traced_memory()[1], 300_000_000)
 
+    def test_memory_of_charts(self) -> None:
+        """Of the standings after each race the ranks are kept, and not all scores again: a page may have many series."""
+        sails = [str(number) for number in range(1, 81)]
+        folder = self.make("long", "\n".join(["Sail", *sails, ""]))
+        journal = journal_of(folder, *(line for race in range(1, 21) for line in (f"FINISH {race} {race}", f"SCORE {race}")))
+        tracemalloc.start()
+        self.addCleanup(tracemalloc.stop)
+        kept = replay.developed(helpers.PROGRAM, ["--exclude", "2"], journal.splitlines()[1:], range(1, 21))
+        gc.collect()
+        self.assertEqual(len(kept), 20)
+        self.assertLess(tracemalloc.get_traced_memory()[0], 800 * 20 * len(sails))
+
     def test_time(self) -> None:
         """What isn't a page is found out in a second, however it is written."""
         page = self.made["results"]
@@ -432,6 +536,17 @@ class Forgeries(ForgedPages):
         with unittest.mock.patch("html.unescape", side_effect=AssertionError("html.unescape")):
             self.assertIn("line", self.why(honest.replace("</h1>", "&x" * 2_000_000 + "</h1>", 1)))
 
+    def test_long_texts(self) -> None:
+        """A text that has no end is refused before a page is made of it: that of `top` has the name of its folder a hundred
+        times, percent-quoted."""
+        for path, why in ((("series", 0, "name"), "is no name of a folder"),
+                          (("stamps", 0, "when"), "the time of change in words is .*, which is longer than that of any moment")):
+            page = resealed(self.made["top"], lambda whole: self.set(whole, path, "é" * 1_000_000))
+            with unittest.mock.patch.object(self.verifier, "rebuilt", side_effect=AssertionError("rebuilt")):
+                self.assertRegex(self.why(page), why)
+        for name in ("a" * 255, "é" * 127):
+            self.assertTrue(self.is_verified(self.forged("top", ("series", 0, "name"), name)), name)
+
     def test_long_decisions(self) -> None:
         """Decisions that are as long, or as many, as can be take a page no longer than a second."""
         page = self.made["results"]
@@ -441,6 +556,14 @@ class Forgeries(ForgedPages):
             made, begun = resealed(page, lambda whole: whole["series"][0].update({"decisions": lines})), time.process_time()
             self.why(made)
             self.assertLess(time.process_time() - begun, 2, lines[0][:40])
+
+    def test_hundred_series(self) -> None:
+        """Of a page of more series than are worked out nothing can be said: an office may have as many."""
+        for kind, make in ("list", listing), ("results", notice):
+            page = make([dataclasses.replace(self.tide, name=f"tide-{at}") for at in range(101)])
+            shown = page if kind == "results" else confirmed(page, "2026-03-01T10:00:00+00:00", "once")
+            with self.assertRaisesRegex(Unsure, "^it has 101 series, and more than 100 take too long to score$"):
+                self.verifier.verified(shown)
 
     def test_long_block(self) -> None:
         """A block of more than the program reads, or of numbers without end, isn't scored."""

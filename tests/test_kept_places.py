@@ -20,6 +20,7 @@ import helpers
 from raceoffice import files, system
 from raceoffice.errors import NotSent, Trouble
 from raceoffice.office.backups import Backups
+from raceoffice.office.keeping import Keeping
 from raceoffice.program.journal import Race
 from raceoffice.series import kept_places, taken_out
 from raceoffice.series.continuity import note_now
@@ -323,6 +324,26 @@ class OlderJournal(Removals):
         """She isn't in the order: the place is kept where it was."""
         self.assertEqual(self.opened(*self.SAILED[:5], "FINISH 2 GBR7"), ["?1"])
         self.assertEqual(self.ahead(), [{"GBR101"}])
+
+    def test_held_meanwhile(self) -> None:
+        """A window that was stopped holds the file at the opening: the place is kept again once it is free, though others
+        have finished since."""
+        keeping = Keeping(self.folder, print, lambda: False)
+        with open(self.places.path, "rb") as file, mock.patch.object(kept_places, "LOCK", 0.0), \
+                mock.patch.object(keeping, "save"), mock.patch.object(keeping.service, "link", create=True):
+            self.put(self.SAILED[:5])
+            fcntl.flock(file, fcntl.LOCK_EX)
+            keeping.begin()
+            keeping.look()
+            self.assertEqual(history_of(self.folder).waiting.marks(1), [])
+            self.put([*self.SAILED[:5], "ENTER GBR5", "FINISH 1 GBR5"])
+            fcntl.flock(file, fcntl.LOCK_UN)
+            keeping.look()
+        self.assertEqual((history_of(self.folder).waiting.marks(1), self.ahead()), (["?1"], [{"GBR101"}]))
+        size = os.path.getsize(self.places.path)
+        with mock.patch.object(keeping, "save"), mock.patch.object(keeping.service, "link", create=True):
+            keeping.look()
+        self.assertEqual(os.path.getsize(self.places.path), size)
 
     def test_put_back_again(self) -> None:
         """The journal that has her line comes back, or it is typed again after fewer others: she is in the place."""

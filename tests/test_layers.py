@@ -15,7 +15,7 @@ import helpers
 PACKAGE = pathlib.Path(helpers.TOP, "raceoffice")
 # From the lowest to the highest. A package here means all of its modules that aren't named apart.
 LAYERS = [
-    ["characters", "time_zones", "version"],
+    ["characters", "interruption", "time_zones", "version"],
     ["wording"],
     ["remarks"],
     ["errors"],

@@ -23,9 +23,13 @@ from raceoffice.office.window import OfficeWindow
 from raceoffice.program.journal import Race
 from raceoffice.program.link import Link
 from raceoffice.remarks import remark
+from raceoffice.results.source import ResultsSource
 from raceoffice.series.copies import newest
 from raceoffice.series.folder import Folder, Lock
 from raceoffice.series.kept_places import Places
+from raceoffice.web.live_board import RoomSource
+from raceoffice.web.room import Room
+from raceoffice.web.states import rules_of
 
 
 class Windows(helpers.Series):
@@ -540,6 +544,39 @@ class Keepings(Windows):
         self.assertIn("Closed. journal.txt has 8 entries, and so has kept/", said[-2])
         self.assertEqual((len(said), said[-1][:7]), (2, "TABLE 7"))
         self.assertEqual(self.text("cup", self.newest_copy()), self.text("cup", "journal.txt"))
+
+
+    def test_rules_before_they_are_noted(self) -> None:
+        """Whoever comes to an office before the log has its opening goes by its rules all the same, from then on."""
+        folder = Folder(self.path())
+        folder.make_private()
+        self.addCleanup(self.stop, "cup")
+        for exclude in ("2", "none"):
+            self.write(self.text("cup", "series.ini").replace("exclude = 2", f"exclude = {exclude}"), "cup", "series.ini")
+            kept = keeping.Keeping(Folder(self.path()), lambda _: None, lambda: False)
+            self.assertFalse(kept.service.lock.is_taken())
+            with contextlib.closing(kept.backups.second):
+                kept.start()
+                room = Room(folder, lambda: None)
+                sources = [ResultsSource(self.path()), RoomSource(room)]
+                room.look()
+                self.assertEqual([self.rules_of(source) for source in sources], [exclude, exclude])
+                self.assertIn(("exclude", exclude), rules_of(room.folder.settings).items())
+                kept.begin()
+                kept.note_opened()
+                self.assertEqual([self.rules_of(source) for source in sources], [exclude, exclude])
+                room.close()
+                for source in sources:
+                    source.leave()
+                self.assertEqual(kept.close(), 0)
+                kept.service.lock.leave()
+
+    @staticmethod
+    def rules_of(source: ResultsSource) -> str:
+        """By which exclusions a source has its results."""
+        source.look()
+        assert source.view is not None
+        return source.view.settings.exclude
 
 
 class Openings(Windows):

@@ -212,6 +212,34 @@ class AsRecorded(OnWater):
         self.assertEqual(self.at(60.2, "Bob", "FINISH 3 FRA9", behind="NED12"), "taken")
         self.assertEqual([self.seen(race) for race in (2, 3)], [[["NED12"], ["?1"], ["FRA9"]]] * 2)
 
+    def test_boat_behind_one_whom_another_tapped_later(self) -> None:
+        """A phone without a connection has NED12 and then FRA9. Another taps NED12 after both, and who finished next: FRA9 is
+        between them by the clock, not ahead of NED12."""
+        for race in range(1, 7):
+            self.at(13, "Bob", f"FINISH {race} NED12", behind="")
+            self.assertEqual(self.at(9, "Ann", f"FINISH {race} NED12", behind=""), "refused")
+        self.at(14, "Bob", "FINISH 1 IRL5", behind="NED12")
+        self.late(1, 11, (("IRL5",), "BEFORE 1 FRA9 IRL5"), "NED12 FRA9 IRL5", by_clock=True)
+        self.at(14, "Bob", "? 2", behind="NED12")
+        self.late(2, 11, (("?1",), "BEFORE 2 FRA9 ?1"), "NED12 FRA9 ?1", by_clock=True)
+        # Somebody was level with her.
+        self.at(14, "Bob", "TIE 3 GBR7 NED12")
+        self.at(15, "Bob", "FINISH 3 IRL5", behind="GBR7")
+        self.assertEqual(self.at(11, "Ann", "FINISH 3 FRA9", behind="NED12"), (("IRL5",), "BEFORE 3 FRA9 IRL5"))
+        self.assertEqual(self.at(11, "Ann", "FINISH 3 FRA9", behind="NED12", by_clock=True), "taken")
+        self.assertEqual(self.seen(3), [["GBR7", "NED12"], ["FRA9"], ["IRL5"]])
+        # Of GBR7, who is behind NED12, no moment is known.
+        self.at(14, "Bob", "FINISH 4 IRL5", behind="NED12")
+        self.at(15, "Bob", "BEFORE 4 GBR7 IRL5")
+        self.assertEqual(self.untimed(11, "FINISH 4 FRA9", behind="NED12"), ("GBR7",))
+        # One that is struck says nothing.
+        self.at(14, "Bob", "FINISH 5 IRL5", behind="NED12")
+        self.at(15, "Bob", "STRIKE 5 NED12")
+        self.late(5, 11, (("IRL5",), "BEFORE 5 FRA9 IRL5"), "FRA9 IRL5", by_clock=True)
+        # Nobody was recorded since.
+        self.assertEqual(self.at(11, "Ann", "FINISH 6 FRA9", behind="NED12"), "taken")
+        self.assertEqual(self.seen(6), [["NED12"], ["FRA9"]])
+
     def test_place_of_a_window(self) -> None:
         """A place that was typed in a window has a moment, too."""
         self.at(0, "Ann", "FINISH 1 NED12", behind="")

@@ -50,9 +50,21 @@ class Outputs(ForgedPages):
             self.assertTrue(any(line.startswith("   Seal ") for line in end[1:]), end)
 
     def test_columns(self) -> None:
-        """The most columns that a terminal gives: two to wide signs, to those that some call wide, and to hexagrams."""
-        for text, columns in ("Moss", 4), ("名取", 4), ("±5", 3), ("\u4dc0\u4dff", 4):
+        """The most columns that a terminal gives: two to each sign that isn't ASCII, those of Unicode 16 and 17 among them."""
+        for text, columns in (("Moss", 4), ("名取", 4), ("±5", 3), ("\u4dc0\u4dff", 4), ("\u2630\u2637", 4),
+                              ("\u268a\u268f", 4), ("\U0001d300\U0001d356", 4), ("\U0001d360\U0001d376", 4),
+                              ("\U0001f1e6\U0001f1ff", 4), ("Jörg", 5)):
             self.assertEqual(own_words.columns_of(text), columns, text)
+
+    def test_untold_columns(self) -> None:
+        """At a terminal that doesn't tell its columns a line is as long as at one of 80, and not as long as it is."""
+        self.found(self.pages()["results"].replace("A. Moss", "x" * 50 + "results.html: verified."))
+        window = helpers.Window("verify", self.path, "--program", helpers.PROGRAM)
+        self.addCleanup(window.close)
+        said, status = window.rest()
+        self.assertEqual(status, 1)
+        self.assertLessEqual(max(map(len, said.splitlines())), 80, said)
+        self.assertIn("\n     | ", said.replace("\r", ""))
 
     def test_decisions(self) -> None:
         """Each word of each kind of decision."""
@@ -95,12 +107,12 @@ class Outputs(ForgedPages):
 # adds a value here has seen that no page can choose it.
 KNOWN: dict[str, set[str]] = {
     "own_words.py": {"NAME", "verdict.ruling.line", "worded(verdict.why) if verdict.why else verdict.state"},
-    "page_data.py": {"BLOCK", "ID", "KIND", "WRITTEN", "age", "cause", "cause.lineno", "found", "name",
+    "page_data.py": {"BLOCK", "ID", "KIND", "SERIES", "WRITTEN", "age", "cause", "cause.lineno", "found", "name",
         "now.isoformat(timespec='seconds')", "sail", "seal", "stamp.changed", "stamp.every", "text", "wanted",
         "what", "wrong"},
     "verifier.py": {"' '.join(sorted(theirs)) or 'none'", "LARGEST", "PATIENCE", "at", "at + 1",
-        "boat.helm or boat.name", "boat.sail", "called", "cause", "cause.start + 1", "cause.strerror",
-        "characters.shortly(text, MESSAGE)", "escaped", "kept.race", "line", "more", "name_shown(path)", "odd",
+        "boat.helm or boat.name", "boat.sail", "called", "cause", "cause.start + 1", "cause.strerror", "name",
+        "characters.shortly(text, MESSAGE)", "escaped", "kept.race", "line", "more", "name_shown(path)", "named", "odd",
         "ours", "page", "place(table, at + 1, 0)", "program", "refusal('NO ' + start[1])", "seal_words(view)",
         "self.program", "sentence(why)", "view.settings.state", "view.when(view.changed)", "what", "why"},
     "visible.py": {"at", "column + 1", "head", "len(found.rows) - 1", "len(wanted.rows) - 1", "name",

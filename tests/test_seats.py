@@ -6,13 +6,20 @@ import itertools
 import os
 import time
 import unittest
+from collections.abc import Callable
 from unittest import mock
 
 import helpers
+from raceoffice.errors import NoSeat
 from raceoffice.program.link import Link
+from raceoffice.results.announce import sheet_now
+from raceoffice.results.source import ResultsSource
 from raceoffice.series.folder import Folder
-from raceoffice.typing_window.watcher import has_no_seat, is_open, seats_of
+from raceoffice.series.sender import Sender
+from raceoffice.typing_window.watcher import is_open
 from raceoffice.typing_window.window import Window
+from raceoffice.web.room import Room
+from raceoffice.web.taps import Tap
 
 
 class Seats(helpers.Series):
@@ -57,20 +64,48 @@ class Seats(helpers.Series):
             for link in (first, second):
                 link.ask("RANK A")
             session = Window([folder], "FINISH", "").sessions[0]
-            self.assertEqual((is_open(session), has_no_seat(folder)), (False, True))
+            self.assertEqual((is_open(session), folder.has_no_seat()), (False, True))
             second.close()
             helpers.until("a free seat", lambda: is_open(session))
-            self.assertFalse(has_no_seat(folder))
+            self.assertFalse(folder.has_no_seat())
+
+    def test_tries_use_up_nothing(self) -> None:
+        """An office lends two of its four sessions, and has two seats. Whoever else looks in, as often as they like, uses
+        up none: a tap of each role, the web's own look, the board, a declaration, a command that sends lines. When a seat is
+        free they come in, and after them one more."""
+        folder = self.folder()
+        with helpers.served("--clients", "2", "--sessions", "4", folder=folder.file("office")) as (path, _), \
+                contextlib.closing(Link(path)) as first, contextlib.closing(Link(path)) as second:
+            for link in (first, second):
+                link.ask("RANK A")
+            room = Room(folder, lambda: None)
+            self.addCleanup(room.close)
+            board = ResultsSource(folder.path)
+            tries: list[Callable[[], object]] = [
+                lambda: room.do("FINISH", "Ann", Tap.read({"id": "1" * 32, "line": "FINISH 1 A"})),
+                lambda: room.session("SCORER"), room.look, board.look, lambda: Sender(folder.path, "times"), folder.link]
+            for come in tries * 5:
+                with self.assertRaises(NoSeat) as found:
+                    come()
+                self.assertEqual(str(found.exception), "all seats of the office are taken")
+            sheet_now(folder)
+            self.assertTrue(helpers.is_listening(path), "the office has lent its last session")
+            second.close()
+            helpers.until("a free seat", lambda: not folder.has_no_seat())
+            self.assertEqual(room.session("FINISH").office().ask("RANK A"), "NO 7")
+            room.leave()
+            helpers.until("a free seat", lambda: not folder.has_no_seat())
+            self.assertTrue(helpers.is_listening(path), "the office has lent its last session")
 
     def test_seats_of_the_office(self) -> None:
         """The seats are those that the office was opened with."""
         window = self.open()
         self.write(self.text("cup", "series.ini").replace("seats = 16", "seats = 2"), "cup", "series.ini")
         folder = Folder(os.path.join(self.here, "cup"))
-        self.assertEqual((folder.settings.seats, seats_of(folder)), (2, 16))
+        self.assertEqual((folder.settings.seats, folder.seats()), (2, 16))
         window.press()
         window.rest()
-        self.assertEqual(seats_of(folder), 2)
+        self.assertEqual(folder.seats(), 2)
 
 
 if __name__ == "__main__":

@@ -221,13 +221,48 @@ class Opening(helpers.Series):
                       "20%. By order of finishing.\nThey are now: No score excluded. RRS A5.2. Scoring "
                       "Penalty 20%. By order of finishing.\n", said)
         self.assertIn("NED 12 Windhover: 1st, net 2.0 to 4.0\n", said)
-        again.type("n")
-        self.assertEqual(again.rest(), ("Nothing was opened.\n", 1))
-        self.assertFalse(os.path.exists(os.path.join(self.here, "cup", "office", "race.sock")))
+        self.assertIn("Not in force until the office is opened with the new rules: exclude = none.",
+                      helpers.run("check", "cup", cwd=self.here)[0])
+        # After a No the office goes on with the rules as they were, and is asked about the new ones again.
+        self.assertIn("The office goes on with the old rules.", again.say("n", "The office is open"))
+        self.assertIn("series.ini has other rules than the last opening of the office", self.exported())
+        again.press()
+        again.rest()
+        third = self.window("open", "cup")
+        third.read(r"Go on with the new rules\? \[y/N\] ")
+        third.say("y", "The office is open")
+
+    def test_rules_that_fit_no_more(self) -> None:
+        """Corrected times were saved before the first finish, and nobody was asked, as the office was open: boats that finish
+        since don't fit them. The next opening goes on with the rules in force and says so; windows that type go by these."""
+        window = self.open()
+        self.write(self.text("cup", "series.ini").replace("handicap = no", "handicap = yes"), "cup", "series.ini")
+        self.send(*LINES)
+        typed = self.client("cup", "--role", "finish")
+        typed.say("at 3", "3> ")
+        typed.say("gbr7", "1st in race 3")
+        typed.say("?", r"\?1")
+        window.press()
+        window.read(r"Close the office\? \[y/N\] ")
+        window.say("y", r"Closed\.")
+        again = self.window("open", "cup")
+        said = again.read("The office is open")
+        self.assertIn("disagree on handicap", said)
+        self.assertIn("The office goes on with the old rules.", said)
+        self.assertNotIn("Go on with the new rules?", said)
+
+    def test_rotten_rules(self) -> None:
+        """The log's last opening has rules that are none: nothing is known of the rules before then."""
+        self.open().press()
+        helpers.until("its end", lambda: "\tclosed\t" in self.text("cup", "office.log"))
+        log = self.text("cup", "office.log")
+        self.write(log.replace("--exclude 2", "--exclude r"), "cup", "office.log")
+        self.assertNotIn("fault", self.exported())
+        self.window("open", "cup").read("The office is open")
 
     def test_rules_after_a_crash(self) -> None:
         """Results go by the rules of a program that serves, also if its window or its socket has gone. If none does, they
-        go by series.ini, also beside the socket of one that was killed."""
+        go by those of the last opening until somebody agrees to others."""
         window = self.open()
         self.send(*LINES)
         self.write(self.text("cup", "series.ini").replace("absent = a52", "absent = a53"), "cup", "series.ini")
@@ -238,9 +273,23 @@ class Opening(helpers.Series):
         self.assertIn("RRS A5.2", self.exported())
         os.rename(f"{socket}.old", socket)
         self.assertIn("RRS A5.2", self.exported())
+        # Whoever takes it over goes on with its rules, and that is what the log has then.
+        taken = self.window("open", "cup")
+        taken.read(r"Take it over\? \[Y/n\] ")
+        taken.say("", "The office is open")
+        opened = [line.split("\t")[4] for line in self.text("cup", "office.log").splitlines() if "\topened\t" in line]
+        self.assertEqual([("a53" in rules) for rules in opened], [False, False])
+        taken.process.kill()
+        taken.process.wait()
         os.kill(program, signal.SIGKILL)
         helpers.until("its end", lambda: not os.path.exists(f"/proc/{program}"))
         self.assertTrue(os.path.exists(socket))
+        said = self.exported()
+        self.assertIn("RRS A5.2", said)
+        self.assertIn("series.ini has other rules than the last opening of the office", said)
+        again = self.window("open", "cup")
+        again.read(r"Go on with the new rules\? \[y/N\] ")
+        again.say("y", "The office is open")
         self.assertIn("RRS A5.3", self.exported())
 
     def exported(self) -> str:

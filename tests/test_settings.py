@@ -45,6 +45,28 @@ class Clocks(unittest.TestCase):
         with helpers.time_zone("XYZ-1:07"):
             self.assertEqual((time_zones.of_this_computer(), time_zones.like_computer()), ("", ""))
 
+    def test_moments_in_words(self) -> None:
+        """The words that a page has of a moment are taken for some computer's, whatever zone a computer may have."""
+        for zone in ("Europe/Lisbon", "UTC0", "JST-9", "<->5", "A1B-3", "AAA-15", "AAA+14:30", "AAA-3:30:15", "AAA+3:30:45",
+                     "AAA-23:59:59", "AAA+23:59:59", "AAA-24", "AAA+24:59:59", "AAA0:00:30", "UTC-0:0:30", "Africa/Monrovia",
+                     "<+00>0", "<-00>0:00:30"):
+            for year in (1970, 2026, 9998):
+                for second in (0, 15, 29, 30, 45, 59):
+                    moment = datetime.datetime(year, 3, 1, 10, 0, second, tzinfo=datetime.timezone.utc)
+                    with self.subTest(zone=zone, moment=str(moment)), helpers.time_zone(zone):
+                        words = time_zones.of_computer(moment)
+                        self.assertTrue(time_zones.is_of_some_computer(words, moment), words)
+
+    def test_number_of_no_hours(self) -> None:
+        """A zone that is named by a number, and has the clock of UTC, is called UTC: as that of the Azores in summer."""
+        moment = datetime.datetime(2026, 7, 18, 15, 30, tzinfo=datetime.timezone.utc)
+        wanted = "Sat 18 Jul 2026, 15:30 UTC"
+        self.assertEqual(time_zones.moment_text(moment.astimezone(zoneinfo.ZoneInfo("Atlantic/Azores"))), wanted)
+        for zone in ("Atlantic/Azores", "<+00>0", "<-00>0", "UTC0"):
+            with self.subTest(zone=zone), helpers.time_zone(zone):
+                self.assertEqual(time_zones.of_computer(moment), wanted)
+                self.assertTrue(time_zones.is_of_some_computer(wanted, moment))
+
     def test_name_in_a_file(self) -> None:
         """Without TZ it is the one to which /etc/localtime leads, or that of /etc/timezone, if this is its clock."""
         with helpers.folder() as here, helpers.time_zone("Europe/Berlin"), contextlib.ExitStack() as stack:
@@ -97,7 +119,8 @@ class Settings(unittest.TestCase):
                            ("scp", "0"), ("scp", "20%"), ("handicap", "1"), ("seats", "17"),
                            ("zone", "Europe/Lisboa"), ("zone", "../x"), ("zone", "localtime"),
                            ("zone", "posixrules"), ("zone", "Factory"), ("zone", "right/UTC"),
-                           ("zone", "posix/Europe/Lisbon"), ("state", "done"),
+                           ("zone", "posix/Europe/Lisbon"), ("zone", "a/" * 3000 + "x"),
+                           ("zone", "." * 300 + "/x"), ("state", "done"),
                            ("every", "0"), ("port", "70000"), ("address", "localhost"),
                            ("address", "10.0.0.256"),
                            ("title", "")]:

@@ -27,8 +27,10 @@ from raceoffice.errors import ForeignPage, Unsure
 from raceoffice.program.standing import Score
 from raceoffice.results import exports
 from raceoffice.results.html import notice_board, overall
+from raceoffice.results.html.listing import listing
 from raceoffice.results.html.markup import Markup, tag
 from raceoffice.results.html.page import confirmed, styles
+from raceoffice.results.html.sealing import NUMBER
 from raceoffice.results.snapshot import Snapshot
 from raceoffice.verify import page_data, verifier
 
@@ -119,7 +121,7 @@ class Pages(helpers.Series):
                 ('class="m1">1</span>', 'class="m1">2</span>', "Rank: the page has '2', and not '1"),
                 ("A8.1", "A8.2", "the text"), (">Provisional<", ">Final<", "'Final' of the page has "),
                 ('helm">O. Roche', 'helm">O. Rocha', "the page has 'IRL 55 O. Rocha'"),
-                ("font: 1rem", "font: 2rem", "all that is seen is right, but line "),
+                ("font: 1rem", "font: 2rem", "no cell or text that differs was found, but line "),
                 ('"1 1 SCORER ENTER GBR101"', '"1 1 SCORER ENTER GBR102"',
                  "entry 1 isn't as it was written: '1 1 SCORER ENTER GBR102'"),
                 ('"exclude": "3"', '"exclude": "4"', "the setting exclude isn't as it was written: '4'"),
@@ -176,7 +178,7 @@ class Pages(helpers.Series):
         self.assertEqual(said.count(": verified."), 16)
         self.assertIn("Class 'A <b>': 7 boats, 3 races, 28 entries, provisional. Scored again: every cell is "
                       "the same.", said)
-        self.assertIn("Program: the same that scored the page, SHA-256 ", said)
+        self.assertIn("Program: the one that the page names, SHA-256 ", said)
 
     def test_no_way_out(self) -> None:
         """No name, title, reason, decision or journal ends the block or begins another."""
@@ -206,12 +208,12 @@ class Pages(helpers.Series):
                           (page.replace('"settings": {', '"settings": ['), "isn't JSON at its line"),
                           (page.replace(block, block.replace('": "', '":  "', 1)), "seal"),
                           (page.replace("</body>", "<p>More</p></body>"), "the text 'More'"),
-                          (page.replace("</style>", ".r { display: none }</style>"), "all that is seen")]:
+                          (page.replace("</style>", ".r { display: none }</style>"), "A browser may show something else")]:
             self.assertIn(why, self.odd(text))
         for text, why in [(page.replace(block, ""), "it has no block"),
-                          (page.replace('"regatta": "3-', '"regatta": "1-'), "an older version"),
-                          (page.replace('"regatta": "3-', '"regatta": "4-'), "a newer version"),
-                          (re.sub('"regatta": "3-[0-9a-f]{8}"', '"regatta": "3-00000000"', page),
+                          (page.replace(f'"regatta": "{NUMBER}-', f'"regatta": "{NUMBER - 1}-'), "an older version"),
+                          (page.replace(f'"regatta": "{NUMBER}-', f'"regatta": "{NUMBER + 1}-'), "a newer version"),
+                          (re.sub(f'"regatta": "{NUMBER}-[0-9a-f]{{8}}"', f'"regatta": "{NUMBER}-00000000"', page),
                            "another version"),
                           (re.sub('"regatta": "[^"]*"', '"regatta": 1', page), "an older version")]:
             with self.assertRaisesRegex(Unsure, why):
@@ -241,6 +243,17 @@ class Pages(helpers.Series):
         self.write(journal_of(folder, "FINISH 1 GBR71", "FINISH 1 GBR7", "FINISH 1 GBR9", "SCORE 1"), "alike", "journal.txt")
         self.verifier.verified(self.page("alike"))
 
+    def test_many_first(self) -> None:
+        """The list names three of the boats that share the first rank, and says how many others do."""
+        sails = [f"GBR {number}" for number in range(1, 7)]
+        self.make("even", "\n".join(["Sail", *sails, ""]))
+        for boats, words in (2, "GBR 1</b>  and <b>GBR 2</b> </p>"), (3, " and <b>GBR 3</b> </p>"), (6, " and <b>GBR 3</b>  and 3 more</p>"):
+            lines = ["FINISH 1 GBR1", *(f"TIE 1 GBR{number} GBR1" for number in range(2, boats + 1)), "SCORE 1"]
+            self.write(journal_of(os.path.join(self.here, "even"), *lines), "even", "journal.txt")
+            page = confirmed(listing([self.view("even")]), "2026-03-01T10:00:00+00:00", "once")
+            self.assertIn(words, page)
+            self.verifier.verified(page)
+
     def test_programs(self) -> None:
         """Another program is named apart; without any, or with one that isn't regatta, nothing is."""
         self.write(self.page(), "page.html")
@@ -249,7 +262,7 @@ class Pages(helpers.Series):
         os.chmod(other, stat.S_IRWXU)
         said, status = helpers.run("verify", "page.html", "--program", other, cwd=self.here)
         self.assertEqual(status, 0)
-        self.assertIn("Program: another than that which scored the page, and both agree.", said)
+        self.assertIn("Program: another than the page names, which wasn't asked.", said)
         os.mkdir(os.path.join(self.here, "beside"))
         os.symlink(helpers.PROGRAM, os.path.join(self.here, "beside", "regatta"))
         with unittest.mock.patch.dict(os.environ, {"PATH": os.path.join(self.here, "beside")}):
@@ -258,8 +271,8 @@ class Pages(helpers.Series):
                 self.assertEqual((status, "verified. " in said or ": verified." in said), (0, True), said)
             # A program that came with a page doesn't judge it, unless somebody names it by its path.
             os.symlink(other, os.path.join(self.here, "regatta"))
-            for words, text in (list[str](), "the same that"), (["--program", "./regatta"],
-                                                                "another than that"):
+            for words, text in (list[str](), "the one that"), (["--program", "./regatta"],
+                                                                "another than the page"):
                 said, status = helpers.run("verify", "page.html", *words, cwd=self.here)
                 self.assertEqual((status, f"Program: {text}" in said), (0, True), said)
         for program, why in (("nowhere", "There is no program at nowhere"),
@@ -304,7 +317,9 @@ then exec sleep 60; fi\n: > {self.here}/once\nexec {helpers.PROGRAM} "$@\"""")]:
         self.make("home", zone="")
         for zone, words in [("Europe/Lisbon", r"WES?T \(UTC\+[01]\)"), ("Asia/Kolkata", r"IST \(UTC\+5:30\)"),
                             ("America/St_Johns", r"N[SD]T \(UTC-[23]:30\)"), ("UTC0", "UTC"),
-                            ("Race-3", r"UTC\+3"), ("Asia/Dubai", r"UTC\+4")]:
+                            ("Race-3", r"UTC\+3"), ("Asia/Dubai", r"UTC\+4"), ("AAA-15", r"UTC\+15"),
+                            ("AAA+14:30", "UTC-14:30"), ("AAA-3:30:15", r"UTC\+3:30"), ("AAA+23:59:59", "UTC-23:59"),
+                            ("AAA-24:30", "UTC")]:
             with unittest.mock.patch.dict(os.environ, TZ=zone):
                 time.tzset()
                 page = self.page("home")

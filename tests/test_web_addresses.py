@@ -44,9 +44,9 @@ def roles_of(guard: ast.expr | None, usual: frozenset[str]) -> frozenset[str]:
     """The roles that a condition names: all that may ask without one."""
     if guard is None:
         return usual
-    named = re.findall(r"role == '([A-Z]+)'", ast.unparse(guard))
+    named = re.findall(r"role (?:== '[A-Z]+'|in \('[A-Z]+', '[A-Z]+'\))", ast.unparse(guard))
     assert len(named) == 1, ast.unparse(guard)
-    return frozenset({named[0].lower()})
+    return frozenset(name.lower() for name in re.findall("'([A-Z]+)'", named[0]))
 
 
 def addresses() -> dict[tuple[str, str], frozenset[str]]:
@@ -68,12 +68,12 @@ def named_in_page() -> dict[tuple[str, str], frozenset[str]]:
     found: dict[tuple[str, str], frozenset[str]] = {}
     for row in table.splitlines()[1:]:
         cell, method = row.split("|")[1].strip(), ""
-        role = re.match("(jury|scorer): ", cell)
+        roles = re.match("((?:jury|scorer)(?: and scorer)?): ", cell)
         for text in re.findall("`([^`]+)`", cell):
             one = re.match("(?:(GET|POST) )?([a-z]+)", text)
             if one and one[2] != "in":
                 method = one[1] or method
-                found[method, one[2]] = frozenset({role[1]}) if role else EACH
+                found[method, one[2]] = frozenset(roles[1].split(" and ")) if roles else EACH
     return found
 
 

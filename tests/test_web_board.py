@@ -158,6 +158,15 @@ class Pushed(Web):
         for path in ("/live", "/live?page=", "/live?page=/none/", "/live?page=/cup/results.csv", "/live?/cup/"):
             self.assertEqual(phone.ask("GET", path)[0], 404, path)
 
+    def test_page_that_left(self) -> None:
+        """A spectator at an address that was posted, and isn't there any more, gets a page with the way to the board."""
+        phone = Device(self.port, "")
+        for path in ("/spring/", "/spring/race-1.html", "/spring"):
+            status, page = phone.ask("GET", path, accept="text/html,application/xhtml+xml,*/*;q=0.8")
+            self.assertEqual((status, phone.fields["content-type"]), (404, "text/html; charset=utf-8"), path)
+            self.assertIn('<a href="/">', page)
+            self.assertEqual(phone.ask("GET", path, accept="application/json")[1]["words"], "there is no such page here")
+
 
 class Stream:
     """Packed news of a page, one event after another."""

@@ -46,6 +46,19 @@ class Corrections(Web):
         self.assertEqual(self.correct(MOVE, id, agreed=[asked["question"]])[0], 200)
         self.assertEqual(self.journal()[4:], [f"SCORER {line}" for line in MOVE])
 
+    def test_who_moved(self) -> None:
+        """Whom a correction has moved is said of all its lines: a boat that is moved was never out of the order. If it moves
+        nobody, that is as it was."""
+        _, said = self.scorer.tap("SCORE 1")
+        self.scorer.tap("SCORE 1", agreed=[said["question"]])
+        for lines in (MOVE, ["STRIKE 1 GBR7", "FINISH 1 GBR7"]):
+            id = new_id()
+            asked = self.correct(lines, id)[1]["question"]
+            self.assertEqual(self.correct(lines, id, agreed=[asked])[1]["outcome"], "taken")
+            moves = self.scorer.state()["last"]["moves"]
+            self.assertEqual(sorted((one["sail"], one["was"], one["rank"], one["net_before"], one["net"]) for one in moves), [
+                ("GBR101", 1, 2, "1.0", "2.0"), ("GBR7", 2, 3, "2.0", "3.0"), ("NED12", 3, 1, "3.0", "1.0")], lines)
+
     def test_refused(self) -> None:
         """A line that the program would refuse keeps all from being sent: she is still where she was."""
         for lines in ([MOVE[0], "BEFORE 1 NED12 FRA9"], [MOVE[0], "TIE 1 NED12 USA4"]):

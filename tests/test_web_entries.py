@@ -6,6 +6,7 @@ import codecs
 import contextlib
 import os
 import pwd
+import re
 import sys
 import threading
 import unittest
@@ -323,7 +324,7 @@ class Rated(Web):
         scorer.tap("ENTER USA4", agreed=[{"kind": "enter-unlisted", "values": {"sail": "USA4"}}])
         # A rating of several columns isn't one text.
         self.assertEqual(scorer.ask("GET", LISTED)[1], {"columns": ["club", "rating"], "rows": {"GBR101": {"club": "YC"}}})
-        for rating, wanted in (("fast", 422), ("1.", 422), ("-1", 422), ("0,953", 200)):
+        for rating, wanted in (("fast", 422), ("1.", 422), ("-1", 422), ("1050", 422), ("0,953", 200)):
             self.assertEqual(scorer.ask("POST", LISTED, {"sail": "USA 4", "rating": rating, "club": "SC"})[0], wanted, rating)
         self.assertEqual(self.text("cup", "entries.csv").splitlines()[-1], "USA 4;0.953;0.953;SC")
 
@@ -439,6 +440,23 @@ class Beside(Web):
         self.assertEqual((status, done["class"], done["open"], beside()), (200, "spring", True, ["summer"]), done)
         self.assertEqual((serve("spring")[0], scorer.tap("FINISH 1 GBR7", name="spring")[0]), (422, 200))
         self.assertIn("state = final\n", self.text("spring", "series.ini"))
+
+    def test_rules_that_wait(self) -> None:
+        """A series whose rules are others than at its last opening stays closed until somebody has answered."""
+        window = self.open("spring")
+        self.client("spring", "--role", "finish").say("finish 1 7", "1st in race 1")
+        window.process.terminate()
+        window.rest()
+        self.write(re.sub(r"(?m)^exclude = .*$", "exclude = none", self.text("spring", "series.ini")), "spring", "series.ini")
+        scorer = self.device("scorer", "Bea")
+        status, done = scorer.ask("POST", "/office/scorer/serve", {"name": "spring"})
+        self.assertEqual((status, done["class"], done["open"]), (200, "spring", False), done)
+        self.assertEqual(done["said"][-1]["kind"], "office-waits")
+        self.assertFalse(helpers.is_listening(os.path.join(self.here, "spring", "office", "race.sock")))
+        status, asked = scorer.again().ask("POST", "/office/scorer/open/spring", {})
+        self.assertEqual((status, asked["question"]["kind"]), (409, "new-rules"), asked)
+        status, done = scorer.again().ask("POST", "/office/scorer/open/spring", {"agreed": [asked["question"]]})
+        self.assertEqual((status, done["open"]), (200, True), done)
 
 
 if __name__ == "__main__":

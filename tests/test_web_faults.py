@@ -233,7 +233,6 @@ class Crowds(unittest.IsolatedAsyncioTestCase):
     async def test_files(self) -> None:
         """Never more of them have a file than there is room for, and one that may be turned away."""
         host, port, taken, most = Host(self.answer, lambda _: 0, print), helpers.free_port(self), [], 0
-        host.most = host.most_of_one = ROOM
         asyncio.get_running_loop().slow_callback_duration = helpers.PATIENCE
         accept = socket.socket.accept
 
@@ -246,6 +245,7 @@ class Crowds(unittest.IsolatedAsyncioTestCase):
 
         with mock.patch.object(socket.socket, "accept", counted):
             await host.start("127.0.0.1", port, None)
+            host.most, host.most_of_one, host.most_ending = ROOM, ROOM, 0
             crowd = [socket.create_connection(("127.0.0.1", port)) for _ in range(CROWD)]
             while len(taken) < CROWD:
                 await asyncio.sleep(0.01)

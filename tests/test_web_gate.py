@@ -173,7 +173,7 @@ class Attacks(unittest.TestCase):
         self.assertEqual(words, ["Path=/office/jury", f"Max-Age={14 * 86400}", "HttpOnly", "SameSite=Strict"])
 
     def test_guessed(self) -> None:
-        """Ten tries at a link, then one each five seconds: the right one isn't taken either then."""
+        """Ten wrong tries at a link, then one each five seconds. Whoever has the link comes in all the same."""
         role, key = self.web.links["finish"].partition("#")[2].split(".")
         self.assertGreaterEqual(len(key), 22)
         # Three devices have come by now.
@@ -183,7 +183,7 @@ class Attacks(unittest.TestCase):
             tried.append(self.entered("finish", "A" * 22))
         self.assertEqual((tried[0], tried[-1]), (403, 429))
         self.assertLessEqual(len(tried), 11 + (time.monotonic() - began) / 5)
-        self.assertEqual(self.entered(role, key), 429)
+        self.assertEqual(self.entered(role, key), 200)
         for wrong in ("", "SCORER", "x"):
             self.assertIn(self.entered(wrong, key), (403, 429), wrong)
 

@@ -148,6 +148,35 @@ class Cookies(unittest.TestCase):
         self.assertEqual(again.partition("=")[0], first.partition("=")[0])
         self.assertEqual((self.knows(first)[0], self.knows(again)[0]), (False, True))
 
+    def test_put_out(self) -> None:
+        """Two phones of one usual name are put out, and come in again by a new link in the other order: each has the name
+        that it had, by which its taps are known. Another phone has neither, nor has one of theirs that is called otherwise."""
+        def come(name: str, *held: str, role: str = "FINISH") -> tuple[str, str]:
+            cookie, called = gate.enter(Request("POST", "/", {"cookie": "; ".join(held)}, "127.0.0.1"), role, keys[role], name)
+            return cookie.partition(";")[0], called
+
+        usual = ["iPhone", "iPhone", "W" * 30, "W" * 30]
+        for is_all in (True, False):
+            gate = self.gates[is_all]
+            keys = {role: gate.new_key(role) for role in ("FINISH", "JURY")}
+            phones = [come(name) for name in usual]
+            self.assertEqual([called for _, called in phones], ["iPhone", "iPhone (2)", "W" * 30, "W" * 26 + " (2)"])
+            for mark in [] if is_all else list(gate.devices):
+                gate.revoke(mark)
+            gate = Gate(gate.path)
+            keys["FINISH"] = gate.new_key("FINISH", is_all)
+            self.assertEqual(come("iPhone")[1], "iPhone (3)")
+            self.assertEqual(come("IPHONE", role="JURY")[1], "IPHONE (4)")
+            again = [come(name, cookie) for name, (cookie, _) in reversed([*zip(usual, phones)])]
+            self.assertEqual([called for _, called in again], [called for _, called in reversed(phones)])
+            # Once more, with the cookies of both times.
+            gate.new_key("FINISH")
+            keys["FINISH"] = gate.new_key("FINISH")
+            self.assertEqual([come("iPhone", old[0], new[0])[1] for old, new in zip(phones[1::-1], again[2:])], ["iPhone (2)", "iPhone"])
+            gate.revoke(next(mark for mark, device in gate.devices.items() if device.name == "iPhone (2)"))
+            keys["FINISH"] = gate.new_key("FINISH", False)
+            self.assertEqual([come("Bob", phones[1][0])[1], come("iPhone")[1]], ["Bob", "iPhone (5)"])
+
     def test_of_an_older_package(self) -> None:
         """Its cookie has the role alone in its name, and is that of one office."""
         value = self.come(self.gates[0]).partition("=")[2]

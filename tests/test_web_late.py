@@ -155,6 +155,15 @@ class Late(OnWater):
         lines, agreed = ["STRIKE 1 GBR33", "BEFORE 1 GBR33 FRA9"], list[Any]()
         self.assertEqual([self.correct(lines, agreed, late) for _ in range(2)], ["abandoned-since", "taken"])
 
+    def test_time_of_an_abandoned_sailing(self) -> None:
+        """A boat that the scorer puts into the resail isn't shown with the time of the sailing that was abandoned."""
+        late = int(time.time() * 1000) - 60_000
+        self.do("FINISH", "Ann", "FINISH 1 FRA9", at=late, behind="")
+        self.assertEqual(self.shown(1)["at"], {"FRA9": late})
+        self.abandon(1)
+        self.assertEqual(self.correct(["FINISH 1 FRA9", "FINISH 1 GBR33"], []), "taken")
+        self.assertEqual((self.shown(1)["order"], self.shown(1)["at"]), ([["FRA9"], ["GBR33"]], {}))
+
     def test_many_questions(self) -> None:
         """Of each of 15 boats who hold two things it is asked whether all goes, and all can be agreed to."""
         held = [f"{race} {sail}" for race in (1, 2, 3) for sail in ("NED12", "IRL5", "FRA9", "GBR7", "GBR33")]
@@ -236,6 +245,43 @@ class Late(OnWater):
                 self.assertEqual(self.do("FINISH", **{**late, **more}), "taken")
                 self.assertEqual(self.seen(race)[:2], [["NED12"], ["?1"]])
                 self.do("FINISH", "Cy", f"STRIKE {race} GBR33")
+            # She didn't: she is ahead of the place.
+            self.assertEqual(self.do("FINISH", **late), "place-ahead")
+            self.assertEqual(self.do("FINISH", **late, denied=self.agreed), "taken")
+            self.assertEqual(self.seen(race), [["NED12"], ["GBR33"], ["?1"], ["FRA9"]])
+
+    def test_struck_and_ahead_of_a_place(self) -> None:
+        """A boat that was ahead of a place was struck, and finishes again, as her tap comes late or somebody inserts her:
+        after a No to whether she finished after it she is ahead of it, and of all behind it. A No to another question is no
+        answer."""
+        cases: list[tuple[int, str, list[str]]] = [(1, "FINISH {} GBR7", []), (2, "BEFORE {} GBR7 FRA9", ["FRA9"])]
+        for race, line, last in cases:
+            for one in ("FINISH {} NED12", "FINISH {} GBR7", "? {}", *(f"FINISH {{}} {sail}" for sail in last), "STRIKE {} GBR7"):
+                self.assertIn(self.do("FINISH", "Ann", one.format(race)), ("taken", "noted"))
+            id = new_id()
+            self.assertEqual(self.do("FINISH", "Ann", line.format(race), id=id), "finished-after")
+            self.assertEqual(self.values, {"mark": "?1", "sail": "GBR7"})
+            denied = self.agreed
+            for _ in range(2):
+                self.assertEqual(self.do("FINISH", "Ann", line.format(race), id=id, denied=denied), "taken")
+                self.assertEqual(self.seen(race), [["NED12"], ["GBR7"], ["?1"], *([sail] for sail in last)], line)
+        self.assertEqual(self.do("SCORER", "Cy", "SCORE 1"), "score-unknown")
+        self.assertEqual(self.do("SCORER", "Cy", "SCORE 1", denied=self.agreed), "score-unknown")
+
+    def test_dropped_at_the_second_question(self) -> None:
+        """A boat that was ahead of two places was struck and is tapped again: it is asked about the first, then about the
+        second, and the tap is dropped there. Nothing came of it, so the next tap for her is asked about the first, too."""
+        for line in ("FINISH 1 NED12", "FINISH 1 GBR7", "? 1", "? 1", "STRIKE 1 GBR7"):
+            self.assertIn(self.do("FINISH", "Ann", line), ("taken", "noted"))
+        agreed: list[Any] = []
+        for mark in ("?1", "?2"):
+            self.assertEqual(self.do("FINISH", "Ann", "FINISH 1 GBR7", agreed=agreed), "finished-after")
+            self.assertEqual(self.values["mark"], mark)
+            agreed += self.agreed
+        self.assertEqual(self.do("FINISH", "Ann", "FINISH 1 GBR7"), "finished-after")
+        self.assertEqual(self.values["mark"], "?1")
+        self.assertEqual(self.do("FINISH", "Ann", "FINISH 1 GBR7", agreed=agreed[:1], denied=agreed[1:]), "taken")
+        self.assertEqual(self.seen(1), [["NED12"], ["?1"], ["GBR7"], ["?2"]])
 
     # Against the clock
 

@@ -10,7 +10,7 @@ import helpers
 from raceoffice.errors import NotSent
 from raceoffice.series.entry_list import Boat
 from raceoffice.series.mend_list import mended
-from raceoffice.web.new_series import folder_made, settings_shown
+from raceoffice.web.new_series import folder_made, list_shown, settings_shown
 from web_devices import Device, Web
 
 GERMAN = ("Herbstpokal 2026;;;;\nStand: 1. Oktober;;;;\nBoot;Segelnummer;Steuermann;Crew;Yardstick\n"
@@ -28,9 +28,9 @@ class Lists(unittest.TestCase):
                                        Boat("SWE 86", "K. Lind", "Tärna")])
         self.assertEqual(found.done, ["Its letters were not UTF-8: look at names with accents.",
                                       "Its columns were separated by semicolons.",
-                                      "2 rows above the headings left out.", "Not read: Crew."])
+                                      "2 rows above the headings left out.", "Not read: Crew and Yardstick."])
         self.assertEqual(found.data.decode().splitlines()[:2],
-                         ["Boot,Segelnummer,Steuermann,Crew,Yardstick", "Möwe,GER 412,H. Jansen,2,101.5"])
+                         ["Boot,Segelnummer,Steuermann,Crew,Yardstick", 'Möwe,GER 412,H. Jansen,2,"101,5"'])
 
     def test_forms(self) -> None:
         """The same list in other encodings, separators and ends of lines gives the same boats."""
@@ -76,6 +76,21 @@ class Lists(unittest.TestCase):
             self.assertIn(wanted, "\n".join(found.wrong), data)
             self.assertEqual(found.boats, [])
 
+    def test_rows(self) -> None:
+        """Rows are counted as the spreadsheet counts them, with its title and its blank rows: what is wrong with one is
+        found there."""
+        above = "Autumn Cup;;\n;;\nSail;Boat;TCF\n"
+        found = mended(f"{above}GBR 7;A;1\n;;\nGBR 33;B;1\ngbr7;C;1\nGBR_9;D;1\n".encode())
+        self.assertEqual([" ".join(str(one).split()[:4]) for one in found.wrong],
+                         ["The list, row 7:", "The list, row 8:"])
+        self.assertIn("gbr7 is in row 4, too", found.wrong[0])
+        rated = list_shown({"data": base64.b64encode(f"{above}GBR 7;A;1,05\n;;\nGBR 33;B;\n".encode()).decode()})
+        given = {"settings": {"handicap": "yes"}, "text": rated["numbered"], "system": "tcf"}
+        noted = settings_shown(given)["note"]
+        assert isinstance(noted, list)
+        self.assertEqual([one["values"]["row"] for one in noted], [6])
+        self.assertEqual(rated["text"], "Sail,Boat,TCF\nGBR 7,A,1.05\nGBR 33,B,\n")
+
 
 class Rules(unittest.TestCase):
     def test_words(self) -> None:
@@ -115,9 +130,10 @@ class First(Web):
         self.assertEqual(scorer.ask("GET", "/")[0], 301)
         data = base64.b64encode(GERMAN.encode("latin-1")).decode()
         found = scorer.ask("POST", "/office/scorer/list", {"data": data})[1]
-        self.assertEqual(found["boats"][0], ["GER 412", "Möwe", "H. Jansen", "", "101.5"])
+        self.assertEqual(found["boats"][0], ["GER 412", "Möwe", "H. Jansen", ""])
         given = {"title": "Herbstpokal", "exclude": "4", "absent": "a53", "zone": "UTC"}
-        made = scorer.ask("POST", "/office/scorer/new", {"name": "herbst", "text": found["text"],
+        # A short name has small letters, whatever is typed.
+        made = scorer.ask("POST", "/office/scorer/new", {"name": "Herbst", "text": found["text"],
                                                           "settings": given})[1]
         self.assertEqual((made["class"], made["open"]), ("herbst", True), made)
         self.assertIn("exclude = 4\n", self.text("herbst", "series.ini"))

@@ -6,6 +6,7 @@ import os
 import signal
 import threading
 import unittest
+import urllib.request
 from typing import Any
 
 import helpers
@@ -59,12 +60,15 @@ class Declared(Results):
         self.finish.tap("FINISH 2 GBR101")
         self.finish.tap("MARK 2 IRL5 OCS")
         self.finish.tap("PENALTY 2 GBR7 ZFP")
+        # What she holds comes in codes, for which pages have words in each language.
+        said = self.device("jury").tap("REDRESS 2 GBR101 ALL")[1]["said"]
+        self.assertEqual([one["values"]["held"] for one in said if one["what"] == "held"], [["RDG ALL"]])
         self.finish.tap("? 2")
         found = self.shown()
         self.assertEqual((found["state"], found["since"], found["is_changed"]), ("provisional", 0, False))
         self.assertEqual([[point["kind"], point["values"]] for point in found["open"]], [
             ["boats-unnamed", {"sails": ["USA4"]}],
-            ["race-unscored", {"race": 2, "finished": 1, "held": ["IRL5 OCS", "GBR7 ZFP"]}],
+            ["race-unscored", {"race": 2, "finished": 1, "held": ["IRL5 OCS", "GBR7 ZFP", "GBR101 RDG ALL"]}],
             ["finishers-unknown", {"races": ["2"], "marks": ["?1"]}]])
         status, asked = self.declare("final")
         self.assertEqual((status, asked["open"]), (409, found["open"]))
@@ -96,6 +100,10 @@ class Declared(Results):
 
         send()
         self.assertEqual((held(jury), self.shown()["open"]), ([("3.5", "3.5", True)], []))
+        # Her cell says so, as on the board.
+        for device in (jury, self.scorer):
+            row = next(row for row in device.state()["standing"]["rows"] if row["sail"] == "GBR7")
+            self.assertEqual(row["scores"][0][:2], ["3.5", "DPI"])
         for line in ("STRIKE 1 NED12", "BEFORE 1 NED12 GBR7"):
             self.scorer.tap(line, agreed=again)
         self.assertEqual([held(jury), held(self.scorer)], [[("4.5", "3.5", False)]] * 2)
@@ -256,6 +264,9 @@ class Declared(Results):
         found = self.shown()
         self.assertEqual((found["state"], found["reason"], found["is_changed"]),
                          ("amended", "GBR 101 is disqualified", False))
+        status, said = jury.tap("CLEAR 1 GBR101")
+        self.assertEqual((status, said["question"]["text"]),
+                         (409, "THE RESULTS HAVE BEEN AMENDED. RACE 1 COUNTS ALREADY. Is this a correction?"))
         self.assertEqual(self.declared("provisional")[0], 200)
         found = self.shown()
         self.assertEqual((found["state"], found["reason"], found["since"] > 0), ("provisional", "", True))
@@ -377,18 +388,77 @@ class Files(Results):
         rules = self.scorer.ask("GET", "/office/scorer/rules/cup")[1]
         saved = {"settings": {**rules["settings"], "exclude": "none", "absent": "a53"}, "tag": rules["tag"]}
         self.assertEqual(self.scorer.ask("POST", "/office/scorer/save/cup", saved)[1]["waiting"], ["exclude", "absent"])
+        # Whoever declares them sees that others wait.
+        waiting = {"keys": ["exclude", "absent"], "saved": ["exclude = none", "absent = a53"]}
+        self.assertIn(["rules-waiting", waiting], [[point["kind"], point["values"]] for point in self.shown()["open"]])
+        question = self.declare("final")[1]["question"]
+        self.assertEqual((question["values"]["rules"], question["text"]),
+                         (waiting["saved"], "Are the results final all the same?"))
         self.assertEqual(self.declared("final")[0], 200)
+        self.check_in_force(nets)
+        # A program that dies is started again with them, and nobody is asked.
+        self.kill_program()
+        helpers.until("the end of the office", lambda: not self.shown()["is_open"])
+        helpers.until("the office", lambda: self.shown()["is_open"])
+        self.check_in_force(nets)
+        # They stay when the office is closed, for the board and for all others.
+        self.assertEqual(self.scorer.again().ask("POST", "/office/scorer/close/cup", {})[0], 200)
+        helpers.until("the end of the office", lambda: not self.shown()["is_open"])
+        self.check_in_force(nets)
+        self.close()
+        self.check_in_force(nets, is_served=False)
+        # The terminal's Enter is No: in the morning the office is open, and the new rules wait.
+        self.serve()
+        self.scorer = self.scorer.again()
+        self.assertIn("cup: The office goes on with the old rules.", self.said())
+        helpers.until("the office", lambda: self.shown()["is_open"])
+        self.check_in_force(nets)
+
+    def check_in_force(self, nets: dict[str, str], is_served: bool = True) -> None:
+        """Results, board and page go by the rules of the last opening. The page of the board can be verified."""
+        said, status = helpers.run("export", "cup", "--text", cwd=self.here)
+        self.assertEqual((status, "RRS A5.2" in said, "have changed since" in said), (0, True, False), said)
+        self.assertIn("series.ini has other rules than the last opening", said)
+        if not is_served:
+            return
+        scorer = self.scorer.again()
+        self.assertEqual(scorer.ask("GET", "/office/scorer/rules/cup")[1]["waiting"], ["exclude", "absent"])
+        self.assertEqual((scorer.state()["settings"]["absent"], self.shown()["is_changed"]), ("a52", False))
         for form in ("page/cup", "text/cup", "csv/cup", "json"):
             data = self.download(form)[0].decode()
             self.assertEqual(("have changed since" in data, "RRS A5.3" in data), (False, False), form)
-        found = {row["sail"]: row["net"] for row in json.loads(self.download("json")[0])[0]["boats"]}
-        self.assertEqual(found, nets)
-        said, status = helpers.run("export", "cup", "--text", cwd=self.here)
-        self.assertEqual((status, "RRS A5.2" in said, "other rules than the open office" in said), (0, True, True), said)
-        # The office dies, and isn't opened until somebody agrees to the new rules. Nothing serves the old ones any more.
-        self.kill_program()
-        helpers.until("the end of the office", lambda: not self.shown()["is_open"])
-        self.assertEqual((self.shown()["is_changed"], "have changed since" in self.download("page/cup")[0].decode()), (True, True))
+        self.assertEqual({row["sail"]: row["net"] for row in json.loads(self.download("json")[0])[0]["boats"]}, nets)
+        with urllib.request.urlopen(f"http://127.0.0.1:{self.port}/cup/") as answer:
+            page = answer.read().decode()
+        self.assertEqual(("have changed since" in page, "RRS A5.3" in page, "RRS A5.2" in page), (False, False, True))
+        self.write(page, "board.html")
+        said, status = helpers.run("verify", "board.html", "--program", helpers.PROGRAM, cwd=self.here)
+        self.assertEqual((status, ": verified." in said), (0, True), said)
+
+    def test_opened_with_the_rules_before(self) -> None:
+        """A No to other rules opens the office with those in force. If nobody has answered, it is asked again."""
+        self.sail()
+        rules = self.scorer.ask("GET", "/office/scorer/rules/cup")[1]
+        saved = {"settings": {**rules["settings"], "exclude": "none"}, "tag": rules["tag"]}
+        self.assertEqual(self.scorer.ask("POST", "/office/scorer/save/cup", saved)[0], 200)
+        self.assertEqual(self.scorer.ask("POST", "/office/scorer/close/cup", {})[0], 200)
+        for _ in range(2):
+            status, asked = self.scorer.again().ask("POST", "/office/scorer/open/cup", {"agreed": []})
+            self.assertEqual((status, asked["question"]["kind"]), (409, "new-rules"))
+            self.assertEqual(self.scorer.again().state()["settings"]["exclude"], "2")
+        status, done = self.scorer.ask("POST", "/office/scorer/open/cup", {"agreed": [], "denied": [asked["question"]]})
+        self.assertEqual((status, done["open"]), (200, True), done)
+        self.assertIn("office-rules-kept", [one.get("kind") for one in done["said"]])
+        helpers.until("the office", lambda: self.shown()["is_open"])
+        self.assertEqual(self.scorer.again().state()["settings"]["exclude"], "2")
+        self.assertEqual(self.scorer.ask("GET", "/office/scorer/rules/cup")[1]["waiting"], ["exclude"])
+        # A boat who is taken out is asked about by the rules in force, and the office comes back with them.
+        shown = self.scorer.ask("POST", "/office/scorer/remove/cup", {"sail": SAILS[-1], "agreed": []})[1]
+        self.assertEqual(shown["question"]["kind"], "remove-boat")
+        taken = self.scorer.ask("POST", "/office/scorer/remove/cup", {"sail": SAILS[-1], "agreed": [shown["question"]]})[1]
+        self.assertTrue(taken["open"], taken)
+        helpers.until("the office", lambda: self.shown()["is_open"])
+        self.assertEqual(self.scorer.again().state()["settings"]["exclude"], "2")
 
     def test_page(self) -> None:
         """The page to print is shown, not saved; it runs the results' own script alone, and is in no frame."""

@@ -114,6 +114,22 @@ class Rulings(Web):
             self.assertEqual(self.sheet(), sheet)
         self.assertEqual(self.yes("SCORER", "TIMES 1", "hcap")["outcome"], "noted")
 
+    def test_who_moved(self) -> None:
+        """Whom a decision has moved is said of all its lines: the redress that it replaces was never gone."""
+        self.sail_races()
+        for points in (2, 3):
+            before = self.ranks()
+            lines = self.ruled("cup", f"race 2 GBR4 DPI {points}")
+            after, last = self.ranks(), self.devices["SCORER"].state("cup")["last"]
+            self.assertEqual(sorted((one["sail"], [one["was"], one["net_before"]], [one["rank"], one["net"]]) for one in last["moves"]),
+                             sorted((sail, before[sail][:2], after[sail][:2]) for sail in before if before[sail] != after[sail]), lines)
+        self.assertEqual(len(lines), 2)
+
+    def ranks(self) -> dict[str, list[Any]]:
+        """The rank and net of each boat of the class by order of finishing, and whether she shares the rank."""
+        rows = self.devices["SCORER"].state("cup")["standing"]["rows"]
+        return {row["sail"]: [row["rank"], row["net"], row["shared"]] for row in rows}
+
     def test_taken_back(self) -> None:
         """One thing that a boat holds is taken back, and all else stays, whoever gave it and in decisions.txt or not: that
         is taken out later as if nothing had been between."""

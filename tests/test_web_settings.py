@@ -92,6 +92,8 @@ class Settings(Web):
         helpers.until("the office", lambda: finish.tap("FINISH 3 GBR101", id)[0] == 200)
         state = self.scorer.state()
         self.assertEqual((state["settings"]["exclude"], self.kept()["waiting"]), ("none", []))
+        # Whom the last line moved is of the scores as they were.
+        self.assertEqual(state["last"], {})
         row = next(row for row in state["standing"]["rows"] if row["sail"] == SAILS[2])
         self.assertEqual(row["net"], "6.0")
         self.assertEqual(self.journal(), [*self.before, "FINISH FINISH 3 GBR7", "FINISH FINISH 3 GBR101"])

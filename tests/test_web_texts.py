@@ -39,11 +39,11 @@ MADE = {
     "refused.": [str(number) for number in NUMBERS if number < 20],
     "results.state.": STATES, "results.declare.": STATES,
     "results.file.": ["html", "csv", "semicolons", "json", "text"],
-    "trouble.": ["0", "401", "403", "429"],
+    "trouble.": ["401", "403", "429", "devices-full"],
 }
 # The questions with words of their own for some values, and what comes before any question about a race that counts.
-VARIANTS = ["ask.announce.amended", "ask.announce.provisional", "ask.correction.declared", "ask.counts", "ask.take-over.since",
-            "ask.score-penalised.a53", "ask.redress-unplaced.a53", "ask.abandon.places",
+VARIANTS = ["ask.announce.amended", "ask.announce.provisional", "ask.correction.amended", "ask.correction.final", "ask.counts",
+            "ask.take-over.since", "ask.score-penalised.a53", "ask.redress-unplaced.a53", "ask.abandon.places",
             "ask.others-recorded.ahead", "ask.others-recorded.changed", "ask.others-recorded.changed.ahead",
             "ask.others-recorded.untimed", "ask.others-recorded.ahead.untimed"]
 
@@ -255,6 +255,13 @@ class Texts(unittest.TestCase):
                         self.assertNotEqual(words.strip(), "")
                         self.assertEqual(set(VALUE.findall(words)) | ({"n"} & wanted if form == "zero" else set()),
                                          wanted)
+
+    def test_named_button(self) -> None:
+        """What is said of a late entry without a name has the words of the button that names her, in each language."""
+        for language in LANGUAGES:
+            words = table(language)
+            for form in forms(words["said.entered.unlisted"]).values():
+                self.assertIn(forms(words["scorer.nameHer"])["other"], form, language)
 
     def test_plurals(self) -> None:
         """A text that English has for one and several has both in each language, and no form that none asks for."""

@@ -10,7 +10,7 @@ from raceoffice.series.folder import Folder
 from raceoffice.session.dialogue import Question, Said
 from raceoffice.session.session import Session
 from test_web_timed import Prepared, moment
-from web_devices import Device
+from web_devices import Device, new_id
 
 SHEET = "Sail,Start,Finish,Code\nGBR101,14:00:00,15:00:00,\nGBR7,14:00:00,15:05:00,\n"
 MISSING = {"kind": "score-missing", "values": {"race": 1, "sails": ["NED12", "FRA9"]}}
@@ -87,6 +87,46 @@ class Scored(Sent):
         self.assertNotIn("sheet-unsent", [kind for kind, _ in self.open_points()])
         self.rate("0.800", "-1")
         self.assertIn("sheet-unread", [kind for kind, _ in self.open_points()])
+
+    def test_undone_after_a_no(self) -> None:
+        """Race 1 counts, and somebody has said No to a boat's other rating. An Undo of her code, or of her strike, gives her
+        the time back that she had, 3,900 s x 0.900, and what is open names her; so it is if the web is killed and the Undo is
+        sent again. What was sent since stays then. In a race that doesn't count she has the time of the sheet, 3,900 s x
+        0.800."""
+        kind, values = self.asked()
+        self.assertEqual(self.scorer.tap("SCORE 1", agreed=[{"kind": kind, "values": values}])[0], 200)
+        self.rate("0.900", "0.800")
+        correction = [{"kind": "correction", "values": {"race": 1}}]
+        taps: list[tuple[str, list[str]]] = [("MARK 1 GBR7 RET", ["FINISH CLEAR 1 GBR7"]), ("STRIKE 1 GBR7", [])]
+        for line, back in taps:
+            id, undo = new_id(), new_id()
+            self.assertEqual(self.ann.tap(line, id, agreed=correction)[1]["outcome"], "taken")
+            before = len(self.journal())
+            for _ in range(2):
+                self.assertEqual(self.ann.tap("UNDO", undo, undoes=id, agreed=correction)[1]["outcome"], "taken")
+                self.assertEqual(self.journal()[before:], [*back, "FINISH TIME 1 GBR7 3510"], line)
+                self.forget(undo)
+            self.assertEqual([one for one in self.open_points() if one[0] == "sheet-unsent"],
+                             [("sheet-unsent", {"race": 1, "sails": ["GBR7"]})])
+        self.assertEqual(self.scorer.tap("TIMES 1", agreed=correction)[1]["outcome"], "taken")
+        since = self.journal()
+        self.assertEqual(since[-2:], ["SCORER STRIKE 1 GBR7", "SCORER TIME 1 GBR7 3120"])
+        self.assertEqual(self.ann.tap("UNDO", undo, undoes=id, agreed=correction)[1]["outcome"], "taken")
+        self.assertEqual(self.journal(), since, "what was sent since the undo stays")
+        self.assertEqual(self.scorer.tap("UNSCORE 1", agreed=[{"kind": "unscore", "values": {"race": 1}}])[1]["outcome"], "taken")
+        self.assertEqual(self.ann.tap("MARK 1 GBR7 RET", id := new_id())[1]["outcome"], "taken")
+        self.assertEqual(self.ann.tap("UNDO", undoes=id)[1]["outcome"], "taken")
+        self.assertEqual(self.journal()[-2:], ["FINISH CLEAR 1 GBR7", "FINISH TIME 1 GBR7 3120"])
+
+    def forget(self, id: str) -> None:
+        """The web is killed before it has noted the answer to a tap."""
+        self.kill()
+        path = ("cup", "office", "web.taps")
+        lines = self.text(*path).splitlines(keepends=True)
+        self.write("".join(line for line in lines if not (f'"{id}"' in line and '"answer"' in line)), *path)
+        self.serve()
+        self.ann, self.scorer = self.ann.again(), self.scorer.again()
+        helpers.until("the office", lambda: not self.ann.state()["trouble"])
 
     def open_points(self) -> list[tuple[str, Any]]:
         """What is open before the results are final."""

@@ -10,6 +10,7 @@ import helpers
 from on_water import OnWater
 from raceoffice.errors import Gone, NotNow, Trouble
 from raceoffice.office import process
+from raceoffice.program.link import Link
 from raceoffice.series.folder import Folder
 from raceoffice.web.kept_office import KeptOffice
 from raceoffice.web.taps import Tap
@@ -75,7 +76,7 @@ class Shut(helpers.Series):
         self.addCleanup(office.close)
         for _ in range(folder.settings.seats + 2):
             if office.is_there():
-                folder.link().close()
+                Link(folder.socket).close()
         helpers.until("the shut door", lambda: not office.is_there())
         self.assertTrue(office.keeping)
         self.assertTrue(office.open(lambda _: True))

@@ -13,7 +13,7 @@ from raceoffice.errors import Trouble
 from raceoffice.series.folder import Folder
 from raceoffice.session.session import Session
 from raceoffice.typing_window.lines_back import LinesBack as LinesBackFound, lines_back
-from raceoffice.typing_window.watcher import News, Watcher, has_no_seat, seats_of
+from raceoffice.typing_window.watcher import News, Watcher
 
 
 # How long an answer may take, for a trial that waits for none.
@@ -226,12 +226,12 @@ class Watching(helpers.Series):
         """Whether an office is full is known as far as the system tells, and by its settings if its program
         doesn't."""
         folder = Folder(self.make("two", seats="2"))
-        self.assertEqual(seats_of(folder), 2)
+        self.assertEqual(folder.seats(), 2)
         for sockets, full in (([True, False], False), ([True, False, False], True)):
             with mock.patch("raceoffice.system.sockets_at", return_value=sockets):
-                self.assertEqual(has_no_seat(folder), full)
+                self.assertEqual(folder.has_no_seat(), full)
         with mock.patch("raceoffice.system.sockets_at", side_effect=Trouble("nobody can say")):
-            self.assertFalse(has_no_seat(folder))
+            self.assertFalse(folder.has_no_seat())
 
     def test_without_readline(self) -> None:
         """Where Python can't edit lines, they are typed all the same."""

@@ -8,13 +8,14 @@ from __future__ import annotations
 import os
 import sys
 
-import browser
-from devices import Chromium, Device
-from screens import shrink
-from stub_office import StubOffice
-from web_office import SAILS
-
 HERE = os.path.dirname(os.path.abspath(__file__))
+sys.path.insert(1, os.path.dirname(HERE))
+import browser  # noqa: E402
+from devices import Chromium, Device  # noqa: E402
+from screens import shrink  # noqa: E402
+from stub_office import StubOffice  # noqa: E402
+from web_office import SAILS  # noqa: E402
+
 NAMES = ["office-finish.png", "office-finish-dark.png", "office-scorer.png", "office-jury.png"]
 LIVE = "document.querySelector('#link')?.dataset.state === 'live'"
 

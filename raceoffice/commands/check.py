@@ -24,8 +24,10 @@ from raceoffice.office.backups import same_disk
 from raceoffice.series.continuity import differences
 from raceoffice.series.folder import Folder
 from raceoffice.series.health import faults, list_notes, notes, summary
+from raceoffice.series.run_program import rules_waiting, settings_in_force
 from raceoffice.series.second_folder import second_of
 from raceoffice.terminal import say, say_json, sentence
+from raceoffice.wording import joined
 
 
 @dataclass(frozen=True)
@@ -54,10 +56,10 @@ def checked(path: str) -> Checked:
         return Checked(path, [sentence(trouble)], "", [])
     wrong = faults(folder)
     changed = "" if wrong else differences(folder)
-    known = [text for text in [*notes(folder), *list_notes(folder), second_note(folder)] if text]
+    known = [text for text in [*notes(folder), *list_notes(folder), second_note(folder), rules_note(folder)] if text]
     if wrong:
         return Checked(path, wrong, changed, known)
-    return Checked(path, wrong, changed, known, summary(folder), folder.settings.in_words())
+    return Checked(path, wrong, changed, known, summary(folder), settings_in_force(folder).in_words())
 
 
 def check(paths: list[str], is_json: bool) -> int:
@@ -70,6 +72,12 @@ def check(paths: list[str], is_json: bool) -> int:
     if is_json:
         say_json([asdict(one) for one in found])
     return 1 if any(one.faults or one.asks for one in found) else 0
+
+
+def rules_note(folder: Folder) -> str:
+    """The rules that wait for an opening; empty if none do."""
+    waiting = [f"{key} = {value}" for key, value in rules_waiting(folder).items()]
+    return f"Not in force until the office is opened with the new rules: {joined(waiting)}." if waiting else ""
 
 
 def second_note(folder: Folder) -> str:

@@ -28,7 +28,6 @@ from __future__ import annotations
 
 import argparse
 import contextlib
-import dataclasses
 from dataclasses import dataclass
 
 from raceoffice.decisions import decision_lines
@@ -36,7 +35,7 @@ from raceoffice.decisions.held import holdings
 from raceoffice.decisions.points import Decided, decided
 from raceoffice.exit_status import status_of, tell_json
 from raceoffice.program.replay import Line
-from raceoffice.series.run_program import opened_rules
+from raceoffice.series.run_program import options_in_force
 from raceoffice.series.sender import Sender
 from raceoffice.terminal import question, say, say_json, sentence
 from raceoffice.wording import count
@@ -52,10 +51,8 @@ class Decisions(Sender):
     """A series with its decisions."""
 
     def state(self) -> State:
-        """The decisions by the rules of the open office, if one is open, or else by those of the settings."""
-        journal = self.sheet().journal
-        rules = opened_rules(self.folder) if self.link else {}
-        options = dataclasses.replace(self.folder.settings, **rules).options()
+        """The decisions by the rules in force."""
+        journal, options = self.sheet().journal, options_in_force(self.folder)
         text = decision_lines.read(self.folder.path)
         return State(decided(self.folder.program, options, journal, text), journal)
 

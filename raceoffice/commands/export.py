@@ -20,7 +20,7 @@ from raceoffice.exit_status import status_of
 from raceoffice.files import replace_whole
 from raceoffice.results.exports import FORMS, views_of
 from raceoffice.results.mail import mail
-from raceoffice.results.snapshot import Snapshot
+from raceoffice.results.snapshot import Snapshot, told_apart
 from raceoffice.terminal import say, visible
 from raceoffice.wording import count, joined
 
@@ -58,7 +58,7 @@ def write(asked: argparse.Namespace, views: list[Snapshot]) -> int:
         say(mail(views))
     else:
         said = ", ".join(f"{view.label} ({count(len(view.standing.rows), 'boat')}, "
-                         f"{count(len(view.standing.races), 'race')})" for view in views)
+                         f"{count(len(view.standing.races), 'race')})" for view in told_apart(views))
         say(f"{joined([path for path in (asked.html, asked.csv, asked.json) if path])}: {said}")
     return 0
 

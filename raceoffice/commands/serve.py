@@ -19,7 +19,7 @@ On plain HTTP whoever is in the network and listens can read what devices send, 
 a Wi-Fi of your own with a password, or --certificate with one that phones trust, for the name of --name.
 
 To stop it by Ctrl-C closes the offices, and is its usual end, with status 0. The status is 1 if it couldn't be
-started.
+started, and 130 after Ctrl-C before it was open: then what was opened is closed.
 
     raceoffice serve cup
     raceoffice serve cup fleet --http 8090

@@ -38,6 +38,8 @@ class Backups:
         self.noted_state: object = None
         # What the office has, and how journal.txt began when this window came.
         self.sheet = Sheet((), ())
+        # Whether places may have to be kept again, as somebody held their file at the opening.
+        self.is_owed = False
         self.first: list[str] | None = None
 
     def save(self, sheet: Sheet) -> None:
@@ -95,14 +97,17 @@ class Backups:
         with contextlib.suppress(Trouble, NotSent):
             self.places.note_removals([command_of(line) for line in self.folder.kept()], own_entries(self.folder))
 
-    def keep_lost(self) -> None:
-        """Keeps the places again that were said to be boats whose lines journal.txt lacks."""
+    def keep_lost(self, patience: float | None = None) -> None:
+        """Keeps the places again that were said to be boats whose lines journal.txt lacks. It is still owed if their file
+        can't be written within the patience, as while a window that has it is stopped."""
+        self.is_owed = True
         with contextlib.suppress(Trouble, NotSent):
             # These notes are of lines that the journal had before it is read.
             data = self.places.data()
             journal = [command_of(line) for line in self.folder.kept()]
             for end in History.read(data, journal).lost():
-                self.places.keep_lost(end, min(len(journal), end.entry - 1))
+                self.places.keep_lost(end, min(len(journal), end.entry - 1), patience)
+            self.is_owed = False
 
     def guard_places(self) -> str:
         """Puts places in again that somebody has taken out of their file; what is said of that, or nothing.

@@ -26,11 +26,24 @@ Ask = Callable[[Question], bool]
 
 
 def is_right(folder: Folder, say: Say) -> bool:
-    """Whether a series can be opened."""
+    """Whether a series can be opened. If the journal doesn't fit rules of series.ini that wait, it goes on with those in
+    force."""
     wrong = faults(folder)
     for text in wrong:
         say(text)
-    return not wrong
+    return not wrong or is_right_as_before(folder, say)
+
+
+def is_right_as_before(folder: Folder, say: Say) -> bool:
+    """Whether a series can be opened with the rules in force, and not with those of series.ini."""
+    wanted = folder.settings
+    if before := rules_before(folder):
+        folder.settings = with_rules(folder, before)
+        if not faults(folder):
+            say(remark("office-rules-kept"))
+            return True
+    folder.settings = wanted
+    return False
 
 
 def mend(folder: Folder, ask: Ask) -> None:
@@ -52,8 +65,11 @@ def mend(folder: Folder, ask: Ask) -> None:
 
 
 def is_meant(folder: Folder, say: Say, ask: Ask) -> bool:
-    """Whether nothing has changed since the last opening that has to be asked about, or somebody says yes."""
-    return is_continued(folder, say, ask) and is_agreed(folder, say, ask)
+    """Whether the journal goes on from the last opening, or somebody says yes. If the rules are others, somebody chooses."""
+    if not is_continued(folder, say, ask):
+        return False
+    choose_rules(folder, say, ask)
+    return True
 
 
 def is_continued(folder: Folder, say: Say, ask: Ask) -> bool:
@@ -66,18 +82,27 @@ def is_continued(folder: Folder, say: Say, ask: Ask) -> bool:
     return ask(question("not-continued", str, difference=text))
 
 
-def is_agreed(folder: Folder, say: Say, ask: Ask) -> bool:
-    """Whether the rules are those of the last opening, or somebody agrees to what they move."""
+def choose_rules(folder: Folder, say: Say, ask: Ask) -> None:
+    """Goes on with the rules of series.ini if they are those of the last opening, or if somebody agrees to whom they move;
+    else with the rules in force."""
     before = rules_before(folder)
     if not before:
-        return True
+        return
     say(remark("office-rules-were", rules=rules_remark(with_rules(folder, before))))
     say(remark("office-rules-now", rules=rules_remark(folder.settings)))
     names, found = entry_list.read_if_there(folder.entries), changes_of_rules(folder, before)
     for change in found:
         words = moved(change, str(names.get(change.after.sail, change.after.sail)))
         say(remark("office-move", words=words, move=move_text(change)))
-    return ask(asked_of_rules(folder, before, found))
+    if not ask(asked_of_rules(folder, before, found)):
+        keep_rules(folder, say)
+
+
+def keep_rules(folder: Folder, say: Say) -> None:
+    """Goes on with the rules in force. Others that series.ini has go on waiting."""
+    if before := rules_before(folder):
+        folder.settings = with_rules(folder, before)
+        say(remark("office-rules-kept"))
 
 
 def question_of_rules(folder: Folder) -> Question | None:

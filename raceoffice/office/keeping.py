@@ -16,9 +16,11 @@ from raceoffice.remarks import in_a_row, remark
 from raceoffice.series.continuity import note_of
 from raceoffice.series.folder import Folder, clock
 from raceoffice.series.health import is_full, remove_fresh, remove_probes
+from raceoffice.series.kept_places import MOMENT
 from raceoffice.series.lost_lines import Unsaved
-from raceoffice.series.run_program import Program
+from raceoffice.series.run_program import Program, settings_in_force
 from raceoffice.series.windows import BOARD, TYPING, open_windows
+from raceoffice.session.dialogue import Question
 from raceoffice.terminal import Once, sentence
 from raceoffice.traces import guarded, fault_sentence
 
@@ -70,6 +72,13 @@ class Keeping:
             self.say(remark("office-places-taken"))
         self.service.start()
 
+    def take_over(self, ask: Callable[[Question], bool]) -> None:
+        """Goes on with a program whose window has gone, and with its rules."""
+        self.service.take_over(ask)
+        self.folder.set_closing(False)
+        self.folder.set_beware("")
+        self.folder.settings = settings_in_force(self.folder)
+
     def begin(self) -> None:
         """Copies the journal for the first time, and notes that the office is open."""
         self.backups.note_removals()
@@ -106,6 +115,8 @@ class Keeping:
     def look(self) -> None:
         """Sees that no place is lost, and copies what is new. Now and then it looks at the copy and at the door,
         and makes a dated copy."""
+        if self.backups.is_owed:
+            self.backups.keep_lost(MOMENT)
         self.say_once("places", self.backups.guard_places())
         if self.second.has_come():
             self.backups.look_again()

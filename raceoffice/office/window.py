@@ -41,9 +41,7 @@ class OfficeWindow(Keeping):
         """Opens the office, and is its window until it is closed; the status."""
         with contextlib.closing(self.backups.second):
             if self.service.lock.is_taken():
-                self.service.take_over(lambda asked: question(asked.text, True))
-                self.folder.set_closing(False)
-                self.folder.set_beware("")
+                self.take_over(lambda asked: question(asked.text, True))
             elif not is_meant(self.folder, say, ask):
                 say("Nothing was opened.")
                 return 1

@@ -18,7 +18,7 @@ from raceoffice import system
 from raceoffice.errors import Trouble
 from raceoffice.program.link import Sheet
 from raceoffice.program.messages import refusal
-from raceoffice.program.standing import Standing
+from raceoffice.program.standing import Ranks, Standing
 from raceoffice.remarks import Remark, remark, system_remark
 
 # Seconds that the program may take for a replay, and for each 1,000 bytes of its journal: of a full series
@@ -138,13 +138,13 @@ def scored(program: str, options: list[str], journal: Sequence[str],
 
 
 def developed(program: str, options: list[str], journal: Sequence[str], races: Sequence[int],
-              tell: Callable[[int, int], None] = lambda done, all: None) -> tuple[Standing, ...]:
-    """The standing after each race, by the scores as they are now. `tell` hears how many are there, of how
+              tell: Callable[[int, int], None] = lambda done, all: None) -> tuple[Ranks, ...]:
+    """The ranks after each race, by the scores as they are now. `tell` hears how many are there, of how
     many.
 
     The program is asked with the later races unscored. The journal's beginnings would give other
     standings: those of the moment, before a hearing or a late entry. The last of them would agree
-    with the table, and the others with no column of it. No standings come back if
+    with the table, and the others with no column of it. No ranks come back if
     the journal has no room for these lines.
     """
     typed = [line for race in reversed(races) for line in ("SHOW", f"UNSCORE {race}")]
@@ -158,7 +158,7 @@ def developed(program: str, options: list[str], journal: Sequence[str], races: S
     found = []
     while said and said[0].startswith("JOURNAL "):
         sheet, end = sheet_of(said), said.index("END")
-        found.append(Standing.read(list(sheet.table)))
+        found.append(Standing.read(list(sheet.table)).ranks())
         if not "".join(said[end + 1:end + 2]).startswith("OK "):
             return ()
         said = said[end + 2:]

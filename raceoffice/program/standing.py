@@ -11,6 +11,10 @@ from raceoffice.errors import NoTable
 from raceoffice.remarks import remark
 
 
+# Each boat's rank, and whether she shares it.
+Ranks = dict[str, tuple[int, bool]]
+
+
 @dataclass(frozen=True)
 class Score:
     """One cell of the table: `(44.0/DNF)`."""
@@ -47,6 +51,9 @@ class Standing:
     def score(self, row: Row, race: int) -> Score:
         """A boat's score in a race that counts."""
         return row.scores[self.races.index(race)]
+
+    def ranks(self) -> Ranks:
+        return {row.sail: (row.rank, row.shared) for row in self.rows}
 
     @classmethod
     def read(cls, table: list[str]) -> Standing:

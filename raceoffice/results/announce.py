@@ -18,7 +18,7 @@ from raceoffice.series import entry_list, settings
 from raceoffice.series.folder import Folder
 from raceoffice.series.kept_places import kept_now
 from raceoffice.series.last_change import mark_of
-from raceoffice.series.run_program import options_in_force, replayed
+from raceoffice.series.run_program import options_in_force, replayed, rules_waiting
 from raceoffice.series.unknown_finishers import marks_by_race
 from raceoffice.session.dialogue import Question, Value
 from raceoffice.session.question_words import question
@@ -50,12 +50,12 @@ def sheet_now(folder: Folder) -> Sheet:
 # What is open
 
 def open_points(folder: Folder, sheet: Sheet, decisions: DecisionsNow | None = None) -> list[Open]:
-    """Boats without a name, races that aren't scored or that have other times in their sheets, finishers without a sail,
-    decisions that aren't in the scores as they have to be."""
+    """Rules that were saved and aren't in force, boats without a name, races that aren't scored or that have other times in
+    their sheets, finishers without a sail, decisions that aren't in the scores as they have to be."""
     series, names = Series.read(list(sheet.journal)), entry_list.read_if_there(folder.entries)
     unnamed = without_name(series.boats, names)
     left = [race for _, race in sorted(series.races.items()) if race.is_recorded and not race.counts]
-    return [*([of_unnamed(folder, unnamed)] if unnamed else []), *(of_race(race, names) for race in left),
+    return [*of_rules(folder), *([of_unnamed(folder, unnamed)] if unnamed else []), *(of_race(race, names) for race in left),
             *of_sheets(folder, series, sheet.journal), *of_places(folder), *of_decisions(folder, sheet, decisions or DecisionsNow(folder))]
 
 
@@ -72,9 +72,18 @@ def of_unnamed(folder: Folder, sails: Sequence[str]) -> Open:
                 f"{'boat' if len(sails) == 1 else 'boats'} to {folder.settings.entries}.")
 
 
+def of_rules(folder: Folder) -> list[Open]:
+    """The rules of series.ini that wait for an opening: the results go by others."""
+    found = rules_waiting(folder)
+    saved = tuple(f"{key} = {value}" for key, value in found.items())
+    return [Open("rules-waiting", {"keys": tuple(found), "saved": saved},
+                 f"Not in force until the office is opened with the new rules: {joined(saved)}.")] if found else []
+
+
 def of_race(race: Race, names: Names) -> Open:
     """A race of which something is recorded, and that doesn't count."""
-    held = tuple(" ".join([sail, *race.held(sail)]) for sail in race.holders())
+    # Pages have words for codes alone.
+    held = tuple(" ".join([sail, *race.held(sail)]).replace("redress", "RDG") for sail in race.holders())
     return Open("race-unscored", {"race": race.number, "finished": sum(map(len, race.order)), "held": held},
                 f"Race {race.number} isn't scored. Recorded of it: {recorded_of(race, names)}.")
 
@@ -148,7 +157,7 @@ def asked_of(state: str, points: Sequence[Open], mark: str = "") -> Question:
     decisions = [" ".join(str(point.values[name]) for name in ("race", "sail", "kind", "points", "held"))
                  for point in points if point.kind == "decision-stale"]
     # An older page hasn't these.
-    more = {"devices": all_of("taps-unsent", "devices"), "sheets": (*all_of("sheet-unsent", "race"), *all_of("sheet-unread", "race"))}
+    more = {"rules": all_of("rules-waiting", "saved"), "devices": all_of("taps-unsent", "devices"), "sheets": (*all_of("sheet-unsent", "race"), *all_of("sheet-unread", "race"))}
     return question("announce", str, state=state, table=mark, races=all_of("race-unscored", "race"),
                     sails=all_of("boats-unnamed", "sails"), marks=all_of("finishers-unknown", "marks"),
                     faults=(*all_of("places-unread", "fault"), *all_of("decisions-unread", "fault")), decisions=decisions, **{name: held for name, held in more.items() if held})

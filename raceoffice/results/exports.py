@@ -17,7 +17,7 @@ Tell = Callable[[str], None]
 
 
 def view_of(folder: str, tell: Tell, is_at_terminal: bool = False) -> Snapshot:
-    """The results of a series by its journal, with the standing after each race. `tell` is called with
+    """The results of a series by its journal, with the ranks after each race. `tell` is called with
     each trouble that doesn't keep them from being shown. A terminal shows how far long work is."""
     source = ResultsSource(folder)
     source.show(source.from_journal())

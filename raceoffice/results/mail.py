@@ -9,7 +9,7 @@ from raceoffice.program.standing import Row, Score
 from raceoffice.results.html.overall import tie_words
 from raceoffice.results.html.page import MEANING
 from raceoffice.results.html.sealing import seal_words
-from raceoffice.results.snapshot import Snapshot
+from raceoffice.results.snapshot import Snapshot, told_apart
 from raceoffice.wording import count
 
 COLUMNS = 72
@@ -78,4 +78,4 @@ def one_class(view: Snapshot) -> str:
 
 def mail(views: Sequence[Snapshot]) -> str:
     """All classes."""
-    return "\n\n".join(map(one_class, views))
+    return "\n\n".join(map(one_class, told_apart(views)))

@@ -1,10 +1,13 @@
 """What the pages of one series show, and the same as CSV and JSON. No score is computed here."""
 from __future__ import annotations
 
+import collections
 import dataclasses
 import datetime
 import functools
 import json
+import re
+import unicodedata
 import urllib.parse
 import zoneinfo
 from collections.abc import Sequence
@@ -13,11 +16,13 @@ from dataclasses import dataclass, field
 from raceoffice import time_zones
 from raceoffice.decisions.points import Decided
 from raceoffice.program.journal import Race, Series
-from raceoffice.program.standing import Row, Score, Standing, tie_break
+from raceoffice.program.standing import Ranks, Row, Score, Standing, tie_break
 from raceoffice.results.spreadsheet import Cell, as_number, csv_of
 from raceoffice.series.entry_list import Boat
 from raceoffice.series.settings import Settings
 
+# The name of a folder that is shown as it is: in brackets it can't be taken for the end of what is before them.
+FOLDER = re.compile(r"[^\s(%]+(?: [^\s(%]+)*")
 CHANGED = "The results have changed since they were declared {}."
 
 
@@ -26,7 +31,7 @@ class Snapshot:
     """One series at one moment; `key` is all that it was made from.
 
     `journal` and `program`, the SHA-256 of the program's file, are what a page carries for those who
-    verify it. `course` has the standing after each race, for a chart. A page that is made again to
+    verify it. `course` has the ranks after each race, for a chart. A page that is made again to
     be verified has the words of its time from the computer that made it, if the series names no zone.
     """
     name: str
@@ -40,23 +45,28 @@ class Snapshot:
     journal: tuple[str, ...] = ()
     decided: Decided = Decided()
     program: str = ""
-    course: tuple[Standing, ...] = ()
+    course: tuple[Ranks, ...] = ()
     said: str = ""
     # What the names of places in a page begin with, if it has several series.
     ids: str = ""
+    # What it is called among the series of a page; if empty, as it is alone.
+    called: str = ""
     # Texts that were made of it already.
     memo: dict[str, str] = field(init=False, default_factory=dict, compare=False, repr=False)
 
     @property
     def label(self) -> str:
         """What the series is called among others."""
-        return self.settings.group or self.settings.title
+        return self.called or self.settings.group or self.settings.title
 
     @property
     def title(self) -> str:
         """The series, with its class if it has one."""
-        shown = self.settings
-        return f"{shown.title}: {shown.group}" if shown.group else shown.title
+        return self.heading(self.label)
+
+    def heading(self, label: str) -> str:
+        """Its title if it is called so among others."""
+        return f"{self.settings.title}: {label}" if self.settings.group else label
 
     @property
     def address(self) -> str:
@@ -129,7 +139,7 @@ class Snapshot:
     def local(self, when: datetime.datetime) -> datetime.datetime:
         """A moment in the series' zone, or else in this computer's."""
         zone = self.settings.zone
-        return when.astimezone(zoneinfo.ZoneInfo(zone) if zone else None)
+        return time_zones.in_zone(when, zoneinfo.ZoneInfo(zone) if zone else None)
 
     def when(self, moment: datetime.datetime) -> str:
         """A moment with its zone and the hours from UTC, as `Thu 26 Nov 2026, 08:52 WET (UTC+0)`."""
@@ -141,10 +151,36 @@ class Snapshot:
 
 
 def labels_of(views: Sequence[Snapshot]) -> list[str]:
-    """What each series is called, with its folder's name if another is called the same."""
-    labels = [view.label for view in views]
-    return [label if labels.count(label) == 1 else f"{label} ({view.name})"
-            for label, view in zip(labels, views)]
+    """What each series is called: no two look alike, and no two headings with them. A series has its folder's name with it
+    if another is called or headed the same, or would be with its own."""
+    labels, named = [view.label for view in views], set[int]()
+    while True:
+        headings = [view.heading(label) for view, label in zip(views, labels)]
+        alike = (looking_alike(labels) | looking_alike(headings)) - named
+        if not alike:
+            return labels
+        for at in alike:
+            labels[at] = f"{labels[at]} ({folder_shown(views[at].name)})"
+        named |= alike
+
+
+def looking_alike(texts: Sequence[str]) -> set[int]:
+    """The places of texts that look as another does: spaces in a row are one, as a browser shows them, and signs that
+    Unicode holds for the same are the same, as a letter with its mark and both in one sign."""
+    seen = [" ".join(unicodedata.normalize("NFKC", text).split()) for text in texts]
+    often = collections.Counter(seen)
+    return {at for at, text in enumerate(seen) if often[text] > 1}
+
+
+def folder_shown(name: str) -> str:
+    """The name of a folder, or what stands for it in an address: no two look alike."""
+    return name if FOLDER.fullmatch(name) and unicodedata.is_normalized("NFKC", name) else urllib.parse.quote(name, safe="")
+
+
+def told_apart(views: Sequence[Snapshot]) -> list[Snapshot]:
+    """The series of a page, each with what it is called among them."""
+    return [view if view.label == label else dataclasses.replace(view, called=label)
+            for view, label in zip(views, labels_of(views))]
 
 
 def labelled(standing: Standing, labels: dict[tuple[int, str], str]) -> Standing:

@@ -18,7 +18,7 @@ from raceoffice.results.snapshot import CHANGED, Snapshot, labelled
 from raceoffice.series import entry_list, settings
 from raceoffice.series.folder import Folder
 from raceoffice.series.last_change import is_changed_since, time_of_entry, time_of_notice, time_of_rules
-from raceoffice.series.run_program import opened_rules, options_in_force, replayed, rules_in_force
+from raceoffice.series.run_program import options_in_force, replayed, rules_in_force
 from raceoffice.series.settings import Settings
 from raceoffice.series.windows import BOARD, Presence
 from raceoffice.terminal import sentence
@@ -39,10 +39,11 @@ def need_own_names(names: list[str]) -> None:
 
 class ResultsSource:
     """One series, looked at again and again. `view` is what is shown, and None before the first
-    success; `office` is `open`, `journal` or `away`; `checked` is when it was confirmed last."""
+    success; `office` is `open`, `journal` or `away`; `checked` is when it was confirmed last. `folder` is one whose settings
+    were read."""
 
-    def __init__(self, path: str) -> None:
-        self.folder = Folder(path)
+    def __init__(self, path: str, folder: Folder | None = None) -> None:
+        self.folder = folder or Folder(path)
         self.link: Link | None = None
         self.presence: Presence | None = None
         self.view: Snapshot | None = None
@@ -99,8 +100,8 @@ class ResultsSource:
     def open_link(self) -> Link:
         """The link to the office, kept while the office is open: each new one uses up a session."""
         if self.link is None:
-            self.link = Link(self.folder.socket, PATIENCE)
-            self.rules = opened_rules(self.folder)
+            self.link = self.folder.link(PATIENCE)
+            self.rules = rules_in_force(self.folder)
             self.presence = Presence(self.folder, BOARD)
             self.log("came")
         return self.link
@@ -166,8 +167,8 @@ class ResultsSource:
         """Makes a new view if anything that it shows has changed."""
         shown = dataclasses.replace(self.settings, **self.rules)
         self.note("rules", "" if shown.options() == self.settings.options() else
-                  "series.ini has other rules than the open office. Close and open the office to "
-                  "change them: until then its own are shown")
+                  "series.ini has other rules than the last opening of the office, whose rules are shown. Those of "
+                  "series.ini hold from the opening on at which somebody agrees to them")
         shown = dataclasses.replace(shown, reason=self.reason(sheet))
         digest = digest_of(self.folder.program)
         key = (sheet, shown, self.boats(), self.decisions(), digest)

@@ -22,11 +22,18 @@ def note_abandoned(folder: Folder, race: int) -> None:
 
 
 def last_abandoned(folder: Folder, race: int) -> int:
-    """When a race was abandoned last; 0 if it never was. A moment later than now is that of a clock that was ahead."""
-    last, now = 0, int(time.time() * 1000)
+    """When a race was abandoned last; 0 if it never was."""
+    return abandonments(folder).get(race, 0)
+
+
+def abandonments(folder: Folder) -> dict[int, int]:
+    """When each race that was ever abandoned was so last. A moment later than now is that of a clock that was ahead."""
+    last: dict[int, int] = {}
+    now = int(time.time() * 1000)
     for line in text_if_any(folder.file(PRIVATE, ABANDONED), LARGEST).splitlines():
         # A line may be torn, or have a rotten bit.
         with contextlib.suppress(ValueError):
-            number, moment = map(int, line.split())
-            last = max(last, moment) if number == race and moment <= now else last
+            race, moment = map(int, line.split())
+            if moment <= now:
+                last[race] = max(last.get(race, 0), moment)
     return last

@@ -8,7 +8,9 @@ import time
 from collections.abc import Iterator
 
 from raceoffice import system
+from raceoffice.errors import NotNow
 from raceoffice.files import PRIVATE
+from raceoffice.remarks import remark
 from raceoffice.series.folder import Folder
 
 # Seconds for which somebody waits for another, and for which nobody waits again for one that didn't go on.
@@ -20,6 +22,8 @@ class AtTheLine:
 
     def __init__(self, folder: Folder) -> None:
         self.path, self.is_held, self.stopped_until = folder.file(PRIVATE, "line.lock"), False, 0.0
+        # Whether nobody else holds it meanwhile.
+        self.is_alone = False
 
     @contextlib.contextmanager
     def alone(self) -> Iterator[bool]:
@@ -36,12 +40,18 @@ class AtTheLine:
             self.is_held = True
             yield True
         finally:
-            self.is_held = False
+            self.is_held = self.is_alone = False
             if file >= 0:
                 os.close(file)
+
+    def need_alone(self) -> None:
+        """NotNow if another holds the lock: what it may send meanwhile would have to be put right afterwards."""
+        if not self.is_alone:
+            raise NotNow(remark("file-unwritten", name=self.path, why=remark("why-written")))
 
     def take(self, file: int) -> None:
         """Takes the lock, unless another doesn't go on."""
         patience = PATIENCE if time.monotonic() >= self.stopped_until else 0.0
-        if not system.take_lock(file, patience) and patience:
+        self.is_alone = system.take_lock(file, patience)
+        if not self.is_alone and patience:
             self.stopped_until = time.monotonic() + STOPPED

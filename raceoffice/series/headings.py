@@ -36,8 +36,8 @@ ENTRIES: dict[str, tuple[str, ...]] = {
 }
 # The ratings of each system of times/rules.ini.
 RATINGS = {
-    "py": ("rating", "py", "pyno", "pynumber", "portsmouthnumber", "portsmouthyardstick", "yardstick",
-           "yardstickzahl"),
+    # No `Yardstick`: a German Yardstick number isn't a Portsmouth number.
+    "py": ("rating", "py", "pyno", "pynumber", "portsmouthnumber", "portsmouthyardstick"),
     "tcf": ("rating", "tcf", "tcc"),
     "tod": ("rating", "tod"),
 }

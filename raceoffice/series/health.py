@@ -22,7 +22,7 @@ from raceoffice.series.copies import best_copy
 from raceoffice.series.folder import LARGEST, Folder, entries_of
 from raceoffice.series.kept_places import kept_in_words
 from raceoffice.series.read_list import bytes_of
-from raceoffice.series.run_program import Program, replayed
+from raceoffice.series.run_program import Program, options_before, options_in_force, replayed
 from raceoffice.series.second_folder import second_of
 from raceoffice.terminal import sentence
 
@@ -192,7 +192,7 @@ def boats_left(folder: Folder) -> str:
     """Which boats of the entry list aren't entered; empty before the first opening."""
     entered: list[str] = []
     with contextlib.suppress(Trouble):
-        entered = Series.read(list(replayed(folder, folder.settings.options()).journal)).boats
+        entered = Series.read(list(replayed(folder, options_in_force(folder)).journal)).boats
     left = [str(boat) for sail, boat in entry_list.read_if_there(folder.entries).items()
             if sail not in entered]
     if not entered or not left:
@@ -211,7 +211,7 @@ def other_journals(folder: Folder) -> str:
 
 def summary(folder: Folder) -> str:
     """The series in one line, from journal and table."""
-    standing = Program(folder).standing(folder.settings.options())
+    standing = Program(folder).standing(options_in_force(folder))
     return remark("office-summary", title=folder.settings.title, boats=remark("some-boats", n=len(standing.rows)),
                   races=remark("some-scored", n=len(standing.races)),
                   entries=remark("some-entries", n=len(folder.kept()) or len(standing.rows)))
@@ -219,7 +219,7 @@ def summary(folder: Folder) -> str:
 
 def rules_before(folder: Folder) -> list[str]:
     """The options of the last opening, if the settings give others now; else none."""
-    before = folder.opened_with()
+    before = options_before(folder)
     return before if before and before != folder.settings.options() and folder.kept() else []
 
 

@@ -18,9 +18,11 @@ PARTED_BY = {";": "list-semicolons", "\t": "list-tabs"}
 
 @dataclass(frozen=True)
 class Mended:
-    """A list as the program takes it, what was done to it, and what is still wrong. `heads` are its headings as
-    they were; `is_sail_known` says that one of them is a sail's, or was chosen."""
+    """A list as the program takes it, what was done to it, and what is still wrong. `numbered` is the list with a blank
+    row for each that was left out, so that its rows have the numbers that the spreadsheet shows. `heads` are its headings
+    as they were; `is_sail_known` says that one of them is a sail's, or was chosen."""
     data: bytes = b""
+    numbered: bytes = b""
     heads: list[str] = field(default_factory=list)
     done: list[Remark] = field(default_factory=list)
     wrong: list[Remark] = field(default_factory=list)
@@ -47,10 +49,17 @@ def mended(data: bytes, sails: int | None = None) -> Mended:
     if sails is not None and 0 <= sails < len(heads):
         done.append(remark("list-sails", column=heads[sails] or sails + 1))
         named[sails] = "Sail"
-    clean = as_csv([named, *rows_as_read(table)])
+    rows = rows_as_read(table)
+    clean, numbered = as_csv([named, *rows]), as_csv(at_their_rows(table, named, rows))
     if left := left_in_words(clean):
         done.append(left)
-    return Mended(clean, heads, done, problems(clean, NAME), column(named, ENTRIES["sail"]) is not None)
+    return Mended(clean, numbered, heads, done, problems(numbered, NAME), column(named, ENTRIES["sail"]) is not None)
+
+
+def at_their_rows(table: Table, heads: list[str], rows: list[list[str]]) -> list[list[str]]:
+    """Headings and rows where they are in the spreadsheet, with blank rows above and between them."""
+    places = {table.first: heads, **{number: row for (number, _), row in zip(table.rows, rows)}}
+    return [places.get(number, []) for number in range(1, max(places) + 1)]
 
 
 def whole_table(data: bytes) -> tuple[Table, int]:

@@ -17,7 +17,7 @@ from raceoffice.series.continuity import differences, note_now, own_entries, par
 from raceoffice.series.folder import Folder, Lock
 from raceoffice.series.kept_places import Places, command_of, history_of, kept_in_words
 from raceoffice.series.race_sheets import sheets_with, take_out_of_sheets
-from raceoffice.series.run_program import Program, replayed
+from raceoffice.series.run_program import Program, options_in_force, replayed
 from raceoffice.series.second_folder import places_copy_of, second_of
 from raceoffice.series.twins import Twins
 from raceoffice.series.unknown_finishers import marks_of_races
@@ -74,7 +74,7 @@ def removal_of(folder: Folder, sail: str) -> Removal:
     if not folder.kept():
         raise Trouble(remark("removal-empty"))
     # The program takes lines in several forms, and shows each entry in one.
-    journal = list(replayed(folder, folder.settings.options()).journal)
+    journal = list(replayed(folder, options_in_force(folder)).journal)
     about = lines_about(journal, sail)
     data = without(held, set(about))
     return Removal(sail, held, about, data, len(journal))
@@ -180,8 +180,8 @@ def without(data: bytes, numbers: set[int]) -> bytes:
 
 
 def moves_without(folder: Folder, found: Removal) -> list[Change]:
-    """Whom a shorter journal moves, by the rules of the settings; a Trouble if the program doesn't take it."""
-    options = folder.settings.options()
+    """Whom a shorter journal moves, by the rules in force; a Trouble if the program doesn't take it."""
+    options = options_in_force(folder)
     before = Program(folder).standing(options)
     done = ran(folder.program, options, journal=found.data)
     if done.returncode:

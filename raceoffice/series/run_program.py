@@ -13,8 +13,10 @@ from raceoffice.program.messages import start_fault
 from raceoffice.program.replay import printed, ran, sheet_of
 from raceoffice.program.standing import Standing
 from raceoffice.remarks import Remark, remark
+from raceoffice.series import settings
 from raceoffice.series.entry_list import given
 from raceoffice.series.folder import Folder
+from raceoffice.series.settings import Settings
 from raceoffice.terminal import sentence
 
 
@@ -110,23 +112,39 @@ def replayed(folder: Folder, options: list[str]) -> Sheet:
 
 
 def rules_of(options: list[str]) -> dict[str, object]:
-    """The rules of a settings file from the options that an office was opened with."""
+    """The rules of a settings file from the options that an office was opened with, or from its program's command."""
     words = dict(zip(options, options[1:] + [""]))
     return {"exclude": words.get("--exclude", "2"), "absent": words.get("--absent", "a52"),
             "scp": words.get("--scp", ""), "handicap": "--handicap" in words}
 
 
-def opened_rules(folder: Folder) -> dict[str, object]:
-    """The rules that the open office has: series.ini may have been changed since."""
+def options_before(folder: Folder) -> list[str]:
+    """The options of the last opening; none if there was none, or if the log has rules there that are none, as by a rotten
+    bit."""
     opened = folder.opened_with()
-    return rules_of(opened) if opened else {}
+    rules = {key: ("yes" if value else "no") if isinstance(value, bool) else str(value) for key, value in rules_of(opened).items()}
+    return opened if all(settings.CHECKS[key][0](text) for key, text in rules.items()) else []
 
 
 def rules_in_force(folder: Folder) -> dict[str, object]:
-    """The rules of a program that serves the series; none if none does, when those of series.ini are in force."""
-    return opened_rules(folder) if folder.is_held() else {}
+    """The rules by which a series is scored until an opening is agreed to with others: those of the program that serves
+    it, or else of the last opening. None if it was never opened, when those of series.ini hold."""
+    opened = folder.served_with() or options_before(folder)
+    return rules_of(opened) if opened else {}
+
+
+def settings_in_force(folder: Folder) -> Settings:
+    """The settings with the rules in force: series.ini may have been changed since."""
+    return dataclasses.replace(folder.settings, **rules_in_force(folder))
 
 
 def options_in_force(folder: Folder) -> list[str]:
     """The rules in force, as options of the program."""
-    return dataclasses.replace(folder.settings, **rules_in_force(folder)).options()
+    return settings_in_force(folder).options()
+
+
+def rules_waiting(folder: Folder) -> dict[str, str]:
+    """The rules that series.ini has and that wait for an opening, by their keys, as they are written there."""
+    kept, held = settings.read(folder.path), settings_in_force(folder)
+    values = {key: getattr(kept, key) for key in settings.KEYS["rules"] if getattr(kept, key) != getattr(held, key)}
+    return {key: ("yes" if value else "no") if isinstance(value, bool) else str(value) for key, value in values.items()}

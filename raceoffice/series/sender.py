@@ -11,7 +11,7 @@ from raceoffice.program.messages import refusal
 from raceoffice.program.replay import Line
 from raceoffice.series.folder import Folder
 from raceoffice.series.lost_lines import UNANSWERED
-from raceoffice.series.run_program import replayed
+from raceoffice.series.run_program import options_in_force, replayed, settings_in_force
 from raceoffice.terminal import say
 
 Sent = TypeVar("Sent", str, Line)
@@ -22,6 +22,8 @@ class Sender:
 
     def __init__(self, path: str, who: str) -> None:
         self.folder, self.who = Folder(path), who
+        # series.ini may have rules that wait.
+        self.folder.settings = settings_in_force(self.folder)
         self.link: Link | None = None
         if os.path.lexists(self.folder.socket) and not self.folder.is_closing():
             self.link = self.folder.link()
@@ -40,7 +42,7 @@ class Sender:
         """The journal and the table: the office's, or those of the folder."""
         if self.link:
             return self.link.sheet()
-        return replayed(self.folder, self.folder.settings.options())
+        return replayed(self.folder, options_in_force(self.folder))
 
     def reply(self, line: Line) -> str:
         """Sends a line in its role, and logs its answer. A Trouble says why there is none."""

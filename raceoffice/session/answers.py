@@ -50,7 +50,7 @@ def outcome(facts: Facts, line: str, waiting: Waiting, entry: int, prefix: str) 
     elif command in FINISHING:
         what, values = place_in(race, sail, waiting.ahead_of(race, sail))
     else:
-        what, values = "held", {"held": race.held(sail)}
+        what, values = "held", {"held": codes_of(race, sail)}
     return answered(what, race=race.number, **values, finished=len(race.places()), coded=len(race.codes),
                     missing=len(race.missing(facts.boats)), boats=len(facts.boats))
 

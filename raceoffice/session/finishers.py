@@ -103,6 +103,7 @@ def send_known(seat: Seat, race: Race, meant: Unread, words: list[str]) -> bool:
 def is_put_there(seat: Seat, meant: Unread, line: str, last: Note | None) -> bool:
     """Sends the line of a finisher who is known now; whether it was taken. `last` is the one that was sent before and has no
     answer."""
+    seat.need_alone()
     length, sail = len(seat.facts.sheet.journal), line.split()[2]
     seat.places.note_sent(meant, line, length, last)
     if not transmit(seat, line, meant):

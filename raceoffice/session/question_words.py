@@ -117,7 +117,8 @@ def of_unscore(words: Words) -> str:
 
 
 def of_correction(words: Words) -> str:
-    declared = "THE RESULTS ARE FINAL. " if "declared" in words.values else ""
+    said = {"final": "THE RESULTS ARE FINAL. ", "amended": "THE RESULTS HAVE BEEN AMENDED. "}
+    declared = said[words.text("declared")] if "declared" in words.values else ""
     return f"{declared}RACE {words.text('race')} COUNTS ALREADY. Is this a correction?"
 
 
@@ -229,7 +230,8 @@ def of_difference(words: Words) -> str:
 
 
 def of_rules(words: Words) -> str:
-    return "Go on with the new rules?"
+    return ("Yes opens the office with the new rules. No opens it with the old ones, and the new ones go on waiting. "
+            "Go on with the new rules?")
 
 
 def of_removal(words: Words) -> str:
@@ -245,7 +247,7 @@ def of_taking_over(words: Words) -> str:
 def of_announcing(words: Words) -> str:
     """Before results are provisional, final or amended; what is open is said before."""
     state, races = words.text("state"), words.all("races")
-    if words.all("marks") or words.all("faults") or words.all("decisions") or {"devices", "sheets"} & words.values.keys():
+    if words.all("marks") or words.all("faults") or words.all("decisions") or {"devices", "sheets", "rules"} & words.values.keys():
         return f"Are the results {state} all the same?"
     without = f" without {'that race' if len(races) == 1 else 'those races'}" if races else ""
     return f"Are the results {state}{without}?"

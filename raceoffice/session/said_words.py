@@ -78,7 +78,8 @@ def of_out_again(words: SaidWords) -> str:
 
 
 def of_held(words: SaidWords) -> str:
-    return words.tallied(f"{' and '.join(words.all('held')) or 'nothing'} in race {words.text('race')}")
+    held = [one.replace("RDG ", "redress ") for one in words.all("held")]
+    return words.tallied(f"{' and '.join(held) or 'nothing'} in race {words.text('race')}")
 
 
 # What a line has changed

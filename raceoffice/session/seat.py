@@ -15,6 +15,7 @@ from raceoffice.series.at_the_line import AtTheLine
 from raceoffice.series.folder import Folder
 from raceoffice.series.kept_places import History, Places, Twin
 from raceoffice.series.lost_lines import UNANSWERED, as_kept
+from raceoffice.series.run_program import settings_in_force
 from raceoffice.series.twins import Twins
 from raceoffice.series.unknown_finishers import Unread, Waiting
 from raceoffice.session.dialogue import NOTE, WARNING, Question, Said
@@ -62,6 +63,8 @@ class Seat:
         self.link, self.number = self.folder.link(), ""
         try:
             self.link.ask(f"ROLE {self.role}")
+            # series.ini may have rules that wait.
+            self.folder.settings = self.facts.settings = settings_in_force(self.folder)
             self.look()
         except Trouble:
             self.disconnect()
@@ -129,6 +132,9 @@ class Seat:
             if is_new:
                 self.look()
             yield
+
+    def need_alone(self) -> None:
+        """NotNow if what is sent now may be overtaken, and nobody be there to put it right. A window is there."""
 
     def look_at_journal(self) -> None:
         """Reads journal and table as they are now."""

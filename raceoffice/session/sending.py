@@ -2,6 +2,7 @@
 from __future__ import annotations
 
 import contextlib
+import itertools
 
 from raceoffice.errors import NotSent, Trouble
 from raceoffice.program.journal import Race
@@ -39,13 +40,15 @@ def keep_ahead(seat: Seat, line: str, later: str = "") -> None:
         seat.places.take_back(stale, "never sent")
     ahead = seat.history.order(race.number).ahead_before(line, later)
     places = [unread for unread in seat.unread.of(race.number) if unread.mark in ahead]
-    for unread in places:
-        if not seat.is_yes(seat.question("finished-after", mark=unread.mark, sail=rest[1])):
-            # She is ahead of all who came since, too.
-            seat.places.note_back(race.number, line, len(seat.facts.sheet.journal), unread.mark)
-            return
+    # Nothing is noted before all is answered: nobody may answer the last question.
+    after = list(itertools.takewhile(
+        lambda unread: seat.is_yes(seat.question("finished-after", mark=unread.mark, sail=rest[1])), places))
+    for unread in after:
         seat.places.keep_ahead(unread, rest[1], len(seat.facts.sheet.journal))
-    if later:
+    if len(after) < len(places):
+        # She is ahead of all who came since, too.
+        seat.places.note_back(race.number, line, len(seat.facts.sheet.journal), places[len(after)].mark)
+    elif later:
         seat.places.note_back(race.number, line, len(seat.facts.sheet.journal), later)
 
 

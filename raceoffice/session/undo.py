@@ -14,6 +14,7 @@ from raceoffice.series.lost_lines import as_kept
 from raceoffice.series.unknown_finishers import Unread
 from raceoffice.session.dialogue import NOTE
 from raceoffice.session.facts import Facts
+from raceoffice.session.finishers import send_known
 from raceoffice.session.parse import FINISHING, MAY
 from raceoffice.session.said_words import said
 from raceoffice.session.seat import Done, Seat
@@ -29,6 +30,8 @@ def undo(seat: Seat) -> bool:
         raise NotSent(done.why)
     if done.unread and done.what:
         return undo_place(seat, done.unread, done.what)
+    if done.line.startswith("STRIKE ") and (mark := seat.history.place_left(done.number)):
+        return put_in_again(seat, done, mark)
     while True:
         line = line_that_undoes(seat, done)
         if not seat.is_yes(seat.question("undo", line=as_kept(done.line), by=line)) or not is_meant(seat, line):
@@ -39,10 +42,25 @@ def undo(seat: Seat) -> bool:
                 return send_leaving(seat, line, done.unread) if done.unread else send_back(seat, line)
 
 
-def line_that_undoes(seat: Seat, done: Done) -> str:
-    """The line that takes back what was done, as it is now; NotSent says why none does."""
+def need_there(seat: Seat, done: Done) -> None:
+    """NotSent if the journal hasn't the line that was sent."""
     if seat.facts.commands[done.number - 1:done.number] != [as_kept(done.line)]:
         raise NotSent(remark("undo-gone", line=done.line))
+
+
+def put_in_again(seat: Seat, done: Done, mark: str) -> bool:
+    """Puts a boat that has left a place into it again; whether that was taken. NotSent if it isn't kept any more."""
+    need_there(seat, done)
+    if later := later_entry(seat.facts, done.number):
+        raise NotSent(later)
+    _, number, sail = done.line.split()
+    race = seat.facts.race(number)
+    return send_known(seat, race, seat.unread.one(race.number, mark), [sail.lower()])
+
+
+def line_that_undoes(seat: Seat, done: Done) -> str:
+    """The line that takes back what was done, as it is now; NotSent says why none does."""
+    need_there(seat, done)
     line = reversal(seat.facts, done.number, seat.history)
     if done.unread and (level := level_entry(seat.facts, done.number)):
         raise NotSent(level)
@@ -68,6 +86,7 @@ def send_back(seat: Seat, line: str) -> bool:
     command, *rest = line.split()
     if command not in ("FINISH", "BEFORE"):
         return transmit(seat, line)
+    seat.need_alone()
     race, sail, length = int(rest[0]), rest[1], len(seat.facts.sheet.journal)
     if not is_back(seat, race, line):
         return False

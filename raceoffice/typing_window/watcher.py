@@ -9,8 +9,6 @@ import time
 
 from raceoffice import system
 from raceoffice.errors import Trouble
-from raceoffice.files import PRIVATE, opened_at_once
-from raceoffice.series.folder import Folder
 from raceoffice.session.session import Session
 
 try:
@@ -130,28 +128,5 @@ def is_open(session: Session) -> bool:
     office nothing."""
     with contextlib.suppress(Trouble):
         found = system.sockets_at(session.folder.socket)
-        return not session.folder.is_closing() and True in found and not is_full(session.folder, found)
+        return not session.folder.is_closing() and True in found and not session.folder.is_full(found)
     return False
-
-
-def is_full(folder: Folder, sockets: list[bool]) -> bool:
-    """Whether an office with these sockets has no free seat: who comes then uses up one of its
-    sessions, and is turned away."""
-    return sockets.count(False) >= seats_of(folder)
-
-
-def has_no_seat(folder: Folder) -> bool:
-    """Whether an office is full, as far as the system tells."""
-    with contextlib.suppress(Trouble):
-        return is_full(folder, system.sockets_at(folder.socket))
-    return False
-
-
-def seats_of(folder: Folder) -> int:
-    """The seats of the open office; those of the settings if its program doesn't tell. They may have been
-    changed since it was opened."""
-    with contextlib.suppress(OSError, ValueError, IndexError):
-        with open(folder.file(PRIVATE, "pid"), encoding="ascii", opener=opened_at_once) as file:
-            words = system.command_line_of(int(file.read().split()[0]))
-        return int(words[words.index(b"--clients") + 1])
-    return folder.settings.seats

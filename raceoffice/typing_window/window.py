@@ -24,7 +24,7 @@ from raceoffice.terminal import question, say, sentence, visible
 from raceoffice.traces import guarded
 from raceoffice.typing_window.classes import ClassUnclear, choosing, session_meant, greeting
 from raceoffice.typing_window.lines_back import lines_back, taken_out
-from raceoffice.typing_window.watcher import AGAIN, LOOK, News, Watcher, has_no_seat
+from raceoffice.typing_window.watcher import AGAIN, LOOK, News, Watcher
 from raceoffice.wording import count, joined
 
 
@@ -308,8 +308,6 @@ class Window:
             try:
                 if session.folder.is_coming_back():
                     raise Trouble("the office is being closed, and opened again at once")
-                if has_no_seat(session.folder):
-                    raise NoSeat("all seats of the office are taken")
                 session.connect()
                 return
             except Trouble as trouble:

@@ -5,7 +5,6 @@ begins with our own words, even if a long one is broken.
 """
 from __future__ import annotations
 
-import unicodedata
 from collections.abc import Sequence
 
 from raceoffice import characters
@@ -15,10 +14,9 @@ from raceoffice.decisions.points import Decided
 from raceoffice.errors import Trouble
 from raceoffice.remarks import Remark, Value, words_of
 
-# What each line begins with that goes on from the one above, and the fewest columns of a terminal.
-GOES_ON, NARROW = "     | ", 20
-# To which terminals give two columns, whatever Unicode says.
-HEXAGRAMS = range(0x4dc0, 0x4e00)
+# What each line begins with that goes on from the one above, the fewest columns of a terminal, and those of one that doesn't
+# tell them, as a serial line.
+GOES_ON, NARROW, USUAL = "     | ", 20, 80
 
 
 class Bare(str):
@@ -81,5 +79,6 @@ def folded(line: str, columns: int) -> list[str]:
 
 
 def columns_of(text: str) -> int:
-    """The most columns that a text takes: some terminals give two to a sign that others give one."""
-    return sum(1 + (unicodedata.east_asian_width(sign) in "WFA" or ord(sign) in HEXAGRAMS) for sign in text)
+    """The most columns that a text takes: one for a sign of ASCII, and two for any other, since with each Unicode terminals
+    give two to more of these. So a line is folded early, and never late."""
+    return sum(1 + (not sign.isascii()) for sign in text)

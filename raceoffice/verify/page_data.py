@@ -20,8 +20,6 @@ from raceoffice.series.settings import CHECKS, LINE_END
 
 START = f'<script type="{KIND}" id="{ID}">\n'
 END = "</script>"
-# The form of a time zone's name, as Europe/Lisbon
-ZONE = re.compile(r"[A-Za-z][\w+-]{0,40}(?:/[\w+-]{1,40}){0,2}", re.ASCII)
 # What the program reads of a journal at most, and how many series are worked out.
 JOURNAL, ENTRIES, SERIES = 1 << 20, 8192, 100
 # The most characters of a block: thirty times as many as that of 500 boats, 40 races and a full journal has. To read one
@@ -29,8 +27,11 @@ JOURNAL, ENTRIES, SERIES = 1 << 20, 8192, 100
 BLOCK = 12 << 20
 # The most characters that its names, settings and decisions have as a page has them. Those of 500 boats have a hundredth.
 WRITTEN = 4 << 20
-SHOWN = re.compile("[A-Za-z0-9-]+(?: [A-Za-z0-9-]+)*")
+# A sail as pages show it. A small letter may look as another's capital.
+SHOWN = re.compile("[A-Z0-9-]+(?: [A-Z0-9-]+)*")
 PROGRAM = re.compile("(?:[0-9a-f]{64})?")
+# The most bytes of the name of a file, and the most characters of a moment in words.
+FILE_NAME, WORDS = 255, 60
 MOMENT = re.compile(r"[0-9]{4}-[0-9]{2}-[0-9]{2}T[0-9]{2}:[0-9]{2}:[0-9]{2}\+00:00")
 FORM = re.compile("([0-9]{1,4})-[0-9a-f]{8}")
 # The moments that a page may have: of any of these every time zone has words.
@@ -65,6 +66,7 @@ def found_in(page: str) -> Kept:
     if not isinstance(whole, dict):
         raise ForeignPage("the block hasn't the parts of one")
     compare_form(whole.get("regatta"))
+    need_few(whole.get("series"))
     if not has_parts(whole):
         raise ForeignPage("the block hasn't the parts of one: a part was renamed, added or taken out, is of "
                   "another type, or is too long")
@@ -213,6 +215,12 @@ def need_zones() -> None:
         raise Unsure("this computer has no data of time zones (package tzdata), and the times of a page are in words")
 
 
+def need_few(series: object) -> None:
+    """Unsure if a page has more series than are worked out."""
+    if isinstance(series, list) and len(series) > SERIES:
+        raise Unsure(f"it has {len(series)} series, and more than {SERIES} take too long to score")
+
+
 def need_size(kept: Kept) -> None:
     """Unsure if it would take too long to write again what a page carries."""
     texts = [text for carried in kept.series for part in (carried.settings.values(), carried.decisions, *carried.boats)
@@ -257,8 +265,9 @@ def wrong_form(kept: Kept) -> str:
 
 
 def wrong_name(carried: Carried) -> str:
-    if carried.name in ("", ".", "..") or "/" in carried.name or "\0" in carried.name:
-        return f"{quoted(carried.name)} is no name of a folder"
+    name = carried.name
+    if name in ("", ".", "..") or "/" in name or "\0" in name or len(name.encode()) > FILE_NAME:
+        return f"{quoted(name)} is no name of a folder"
     if not PROGRAM.fullmatch(carried.program):
         return f"the program is {quoted(carried.program)}, which is no SHA-256"
     return ""
@@ -268,7 +277,7 @@ def wrong_settings(carried: Carried) -> str:
     """The setting that no series could have. Unsure if it is a time zone that this computer may not know."""
     for name, value in carried.settings.items():
         is_right, wanted = CHECKS.get(name, (is_text, "a text"))
-        if name == "zone" and isinstance(value, str) and ZONE.fullmatch(value) and not time_zones.is_name(value):
+        if name == "zone" and time_zones.ZONE.fullmatch(value) and not time_zones.is_name(value):
             raise Unsure(f"this computer doesn't know the time zone {quoted(value)} (packages tzdata, tzdata-legacy)")
         if not is_right(value):
             return f"the setting {name} is {quoted(value)}, and has to be {wanted}"
@@ -319,6 +328,8 @@ def wrong_stamp(carried: Carried) -> str:
     if not 1 <= stamp.every <= 3600:
         return f"the office is asked every {stamp.every} seconds, and not every 1 to 3600"
     moment = moment_of(stamp.changed)
+    if len(stamp.when) > WORDS:
+        return f"the time of change in words is {quoted(stamp.when)}, which is longer than that of any moment"
     # The words of a series' own zone are worked out again, and those on the page compared with them.
     if moment and not carried.settings["zone"] and not time_zones.is_of_some_computer(stamp.when, moment):
         return f"the time of change in words is {quoted(stamp.when)}, which isn't that of {stamp.changed}"

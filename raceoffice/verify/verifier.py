@@ -17,19 +17,19 @@ from raceoffice.program.journal import Series
 from raceoffice.program.link import Sheet
 from raceoffice.program.messages import refusal
 from raceoffice.program.replay import developed, digest_of, nets_before_exclusion, scored
-from raceoffice.program.standing import Standing
+from raceoffice.program.standing import Ranks, Standing
 from raceoffice.results.html import page
 from raceoffice.results.html.listing import listing
 from raceoffice.results.html.notice_board import results
 from raceoffice.results.html.overall import overall
 from raceoffice.results.html.race import one_race
 from raceoffice.results.html.sealing import Carried, seal_words
-from raceoffice.results.snapshot import Snapshot, labelled
+from raceoffice.results.snapshot import Snapshot, labelled, labels_of, looking_alike, told_apart
 from raceoffice.series.settings import Settings, rows_of, settings_of
-from raceoffice.terminal import Progress, put_out, say_json, sentence, width
+from raceoffice.terminal import Progress, as_put_out, put_out, say_json, sentence, width
 from raceoffice.traces import guarded
 from raceoffice.verify import page_data
-from raceoffice.verify.own_words import explained, laid_out, stale
+from raceoffice.verify.own_words import USUAL, explained, laid_out, stale
 from raceoffice.verify.page_data import Kept, found_in, moment_of, still_to_come, wrong_confirmation
 from raceoffice.verify.visible import Seen, difference, first_of, place, standing_of
 from raceoffice.wording import count
@@ -110,8 +110,8 @@ class Verifier:
                     Series.read(list(sheet.journal)), carried.names(), totals, changed, None,
                     carried.journal, found, carried.program, course, carried.stamp.when)
 
-    def course(self, options: list[str], journal: list[str], standing: Standing) -> tuple[Standing, ...]:
-        """The standing after each race. Meanwhile the terminal shows no word of the page."""
+    def course(self, options: list[str], journal: list[str], standing: Standing) -> tuple[Ranks, ...]:
+        """The ranks after each race. Meanwhile the terminal shows no word of the page."""
         progress = Progress("Scoring again")
 
         def tell(done: int, whole: int) -> None:
@@ -192,7 +192,7 @@ def compare_tables(rebuilt: Rebuilt) -> None:
     """Compares the overall tables that raceoffice writes with the program's, cell by cell."""
     tables = [table for table in Seen(rebuilt.text).tables
               if table.caption.startswith("Overall results, ")]
-    wanted = [view for view in rebuilt.views if rebuilt.kept.kind in ("top", "overall", "results")]
+    wanted = told_apart(rebuilt.views) if rebuilt.kept.kind in ("top", "overall", "results") else []
     if len(tables) != len(wanted):
         raise ForeignPage(f"the page has {count(len(tables), 'overall table')}, and not {len(wanted)}")
     for table, view in zip(tables, wanted):
@@ -219,7 +219,7 @@ def first_difference(text: str, wanted: str) -> str:
     if len(text) > len(wanted) + LONGER:
         return f"the page is longer than the right one, and {line}"
     return difference(Seen(text), Seen(wanted)) or (
-        f"all that is seen is right, but {line}. Was the page changed by hand?")
+        f"no cell or text that differs was found, but {line}. A browser may show something else")
 
 
 def part(lines: list[str], at: int) -> str:
@@ -230,29 +230,36 @@ def part(lines: list[str], at: int) -> str:
 
 def value_of(rebuilt: Rebuilt, program: str) -> dict[str, object]:
     """What was found right with a page, for programs."""
-    series = [{"name": view.label, "boats": len(view.standing.rows), "races": len(view.standing.races),
+    series = [{"name": label, "boats": len(view.standing.rows), "races": len(view.standing.races),
                "entries": view.series.entries, "state": view.settings.state, "seal": seal_words(view),
                "changed": view.changed.isoformat(), "program": view.program,
                "beware": bewares(view)}
-              for view in rebuilt.views]
+              for label, view in zip(labels_of(rebuilt.views), rebuilt.views)]
     return {"series": series, "program": digest_of(program)}
 
 
+def classes_named(rebuilt: Rebuilt) -> list[str]:
+    """How each class is named: by its place on the page, too, if what is shown of its name looks as that of another does."""
+    shown = [as_put_out(quoted(label)) for label in labels_of(rebuilt.views)]
+    alike = looking_alike(shown)
+    return [f"Class {at + 1} of the page, {name}" if at in alike else f"Class {name}" for at, name in enumerate(shown)]
+
+
 def report(rebuilt: Rebuilt, program: str) -> list[str]:
-    """What was found right with a page, and whether the program is the same."""
+    """What was found right with a page, and whether the program is the one that it names."""
     lines = []
-    for view in rebuilt.views:
+    for named, view in zip(classes_named(rebuilt), rebuilt.views):
         rows, races = len(view.standing.rows), len(view.standing.races)
-        lines += [f"   Class {quoted(view.label)}: {count(rows, 'boat')}, {count(races, 'race')}, "
+        lines += [f"   {named}: {count(rows, 'boat')}, {count(races, 'race')}, "
                   f"{count(view.series.entries, 'entry', 'entries')}, {view.settings.state}. "
                   "Scored again: every cell is the same.",
                   f"   Seal {seal_words(view)}",
                   f"   Last changed {view.when(view.changed)}, by the page's own word."]
     ours, theirs = digest_of(program), {view.program for view in rebuilt.views}
     same = theirs == {ours}
-    lines.append(f"   Program: the same that scored the page, SHA-256 {ours}" if same else
-                 f"   Program: another than that which scored the page, and both agree. SHA-256 here "
-                 f"{ours}, there {' '.join(sorted(theirs)) or 'none'}")
+    lines.append(f"   Program: the one that the page names, SHA-256 {ours}" if same else
+                 f"   Program: another than the page names, which wasn't asked. SHA-256 here {ours}, there "
+                 f"{' '.join(sorted(theirs)) or 'none'}")
     return lines
 
 
@@ -353,7 +360,7 @@ def verify(pages: Sequence[str], program: str, is_json: bool = False) -> int:
     for path in pages:
         found.append(outcome(verifier, path))
         if not is_json:
-            put_out(laid_out(found[-1].lines, width()))
+            put_out(laid_out(found[-1].lines, width(USUAL)))
     if is_json:
         say_json([one.value for one in found])
     return worst(one.status for one in found)

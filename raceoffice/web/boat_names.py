@@ -6,6 +6,7 @@ import re
 from collections.abc import Mapping
 from typing import Any
 
+from raceoffice.corrected.ratings import is_rating
 from raceoffice.corrected.times import RULES, Rules
 from raceoffice.errors import NotSent, Trouble
 from raceoffice.files import replace_whole
@@ -77,6 +78,7 @@ def name_boat(folder: Folder, facts: Facts, values: Mapping[str, Any], by: str) 
         data = list_of(folder)
         places = places_of(folder, data)
         before = {at: text for key, text in was.items() for at in places.get(key, [])}
+        need_rating(folder, given.get("rating", ""))
         changed = with_boat(data, name_of(folder.entries), sail, cells_of(places, given), before)
         if changed == data:
             return False
@@ -98,12 +100,17 @@ def text_given(values: Mapping[str, Any], key: str) -> str:
     return text
 
 
+def need_rating(folder: Folder, text: str) -> None:
+    """NotSent if a rating is none of the class's system: the program would take no times of its races."""
+    system, written = system_of(folder), text.replace(",", ".")
+    if written and not (is_rating(system, written) if system else RATING.fullmatch(written)):
+        raise NotSent(remark("rating-form", written=text))
+
+
 def cells_of(places: Mapping[str, list[int]], given: Mapping[str, str]) -> dict[int, str]:
     """The cells of a row, by the numbers of their columns. None is a formula."""
     for key, text in given.items():
         if key not in places:
             raise NotSent(remark("name-no-column", key=remark(f"key-{key}")))
-        if key == "rating" and text and not RATING.fullmatch(text.replace(",", ".")):
-            raise NotSent(remark("rating-form", written=text))
     return {at: text.replace(",", ".") if key == "rating" else harmless(text)
             for key, text in given.items() for at in places[key]}

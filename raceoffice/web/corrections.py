@@ -34,7 +34,8 @@ def correct(room: Room, values: Mapping[str, Any], name: str) -> Values:
         room.session("SCORER").look()
         try:
             room.register.under_way = tap.id
-            return sent_whole(room, tap, lines, name)
+            with room.one_change():
+                return sent_whole(room, tap, lines, name)
         finally:
             room.register.under_way = ""
             room.news()

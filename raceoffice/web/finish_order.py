@@ -44,14 +44,16 @@ def line_in_order(facts: Facts, times: Times, own: Collection[str], tap: Tap, li
     last = race.order[-1] if race.order else []
     if tap.behind is None or race.is_in_order(sail):
         return line, ""
-    since = [name for group in groups_after(order, tap.behind) for name in group]
+    after = groups_after(order, tap.behind)
+    since = [name for group in after for name in group]
     close = [name for name in since if is_mark(name) and name not in own and times.get(name, tap.at) + CLOSE > tap.at]
-    later = later_groups(order.order, times, tap.at)
+    # The boat that the device showed last had finished by then, whenever another device tapped her.
+    later = later_groups(after, times, tap.at)
     is_last = tap.behind in last or not (last or tap.behind) or bool(last) and not later and are_before(last, times, tap.at)
     if is_last and not close:
         return line, ""
     clock, ahead = line_ahead(order, line, later[0]) if later else (line, "")
-    untimed = [name for name in untimed_before(order.order, later, times) if name in since]
+    untimed = untimed_before(after, later, times)
     if is_by_clock(tap, later, untimed):
         return clock, ahead
     others = [name for name in since if not is_mark(name) or name in close]

@@ -11,11 +11,13 @@ import hmac
 import itertools
 import json
 import os
+import re
 import secrets
 import socket
 import threading
 import time
-from collections.abc import Callable, Iterable, Iterator
+import unicodedata
+from collections.abc import Callable, Collection, Iterable, Iterator, Sequence
 from dataclasses import asdict, dataclass
 from typing import Any
 
@@ -34,6 +36,10 @@ DEVICES_FILE = "web.json"
 LONG, OFTEN = 14 * 86400, 60.0
 # The most devices of a role, the longest name of one, and how many letters name one to the scorer.
 DEVICES, NAME, MARK = 40, 30, 16
+# Seconds after which a device that wasn't heard gives way to another if there are so many.
+QUIET = 3600.0
+# How many devices that were put out have their names still, and the number at the end of one.
+OUT, NUMBER = 1000, re.compile(r" \([0-9]+\)$")
 # The most bytes of the file.
 LARGEST = 1 << 20
 
@@ -72,7 +78,18 @@ def plain_name(name: str) -> str:
     """The name of a device, on one line, without signs that would turn a line of the log, and without those that aren't
     seen: it would look like another's."""
     seen = replaced("".join(filter(str.isprintable, name)), lambda sign: "")
-    return " ".join(seen.split())[:NAME]
+    return " ".join(unicodedata.normalize("NFC", seen).split())[:NAME].rstrip()
+
+
+def numbered(name: str, end: str) -> str:
+    """A name with a number at its end, as ` (2)`."""
+    return name[:NAME - len(end)].rstrip() + end
+
+
+def number_of(name: str) -> str:
+    """The number at the end of a name; empty if it has none."""
+    found = NUMBER.search(name)
+    return found[0] if found else ""
 
 
 class Gate:
@@ -85,14 +102,19 @@ class Gate:
                       f"{own}.local"}
         self.keys: dict[str, str] = {}
         self.devices: dict[str, Device] = {}
+        # The names of the last devices that were put out, by their marks: each stays that of its device.
+        self.out: dict[str, str] = {}
         self.clock = OwnClock()
         self.written, self.is_heard = time.monotonic(), False
         # Tries at a secret by address; lines and questions by device.
         self.entering, self.writing, self.asking = Rate(10, 0.2), Rate(60, 12), Rate(400, 60)
+        # Devices that come by the link of a role: in hours it can't give them all the names of those that were put out.
+        self.coming = Rate(60, 0.1)
         # Taps that are refused stay in the register: they are few.
         self.refused = Rate(100, 0.5)
-        # Called when devices have been put out.
+        # Called when devices have been put out, and the devices that wait for news just now.
         self.told_out: Callable[[], None] = lambda: None
+        self.watching: Callable[[], Collection[str]] = lambda: ()
         if path:
             self.read()
 
@@ -104,12 +126,14 @@ class Gate:
             held: dict[str, Any] = json.loads(read_whole(self.path, LARGEST))
             self.keys = {role: str(held["keys"][role]) for role in ROLES if role in held["keys"]}
             self.devices = {mark: device_of(values) for mark, values in held["devices"].items()}
+            # An older package hasn't written them.
+            self.out = {mark: str(name) for mark, name in held.get("out", {}).items()}
             if "clock" in held:
                 self.clock.go_on(held["clock"])
         except NotThere:
             return
         except (ValueError, LookupError, TypeError, AttributeError, RecursionError):
-            self.keys, self.devices = {}, {}
+            self.keys, self.devices, self.out = {}, {}, {}
 
     def write(self) -> None:
         """Replaces the file, which only this account may read."""
@@ -117,7 +141,7 @@ class Gate:
         if not self.path:
             return
         held = {"keys": self.keys, "devices": {mark: asdict(device) for mark, device in self.devices.items()},
-                "clock": self.clock.values()}
+                "out": self.out, "clock": self.clock.values()}
         replace_whole(self.path, json.dumps(held).encode())
         os.chmod(self.path, 0o600)
 
@@ -125,12 +149,12 @@ class Gate:
     def changing(self) -> Iterator[None]:
         """While secrets or devices are changed. If the file can't be written, all is as it was."""
         with self.lock:
-            keys, devices = dict(self.keys), dict(self.devices)
+            keys, devices, out = dict(self.keys), dict(self.devices), dict(self.out)
             try:
                 yield
                 self.write()
             except Trouble:
-                self.keys, self.devices = keys, devices
+                self.keys, self.devices, self.out = keys, devices, out
                 raise
             self.told_out()
 
@@ -149,47 +173,73 @@ class Gate:
         with self.changing():
             self.keys[role] = hashed(secret)
             if are_devices_out:
-                self.devices = {mark: device for mark, device in self.devices.items() if device.role != role}
+                self.put_out([mark for mark, device in self.devices.items() if device.role == role])
         return secret
 
-    def revoke(self, mark: str) -> None:
-        """Puts one device out; `mark` is the beginning of its own."""
+    def put_out(self, marks: Iterable[str]) -> None:
+        """Puts devices out. Taps are known to be of one device by its name, so nobody else is called so soon."""
+        self.out |= {mark: self.devices.pop(mark).name for mark in marks}
+        self.out = dict([*self.out.items()][-OUT:])
+
+    def revoke(self, mark: str, ends_link: bool = True) -> None:
+        """Puts one device out; `mark` is the beginning of its own. A phone that was lost may have the link of its role still:
+        that ends, too."""
         if len(mark) < MARK:
             return
         with self.changing():
-            self.devices = {key: device for key, device in self.devices.items() if not key.startswith(mark)}
+            found = [device for key, device in self.devices.items() if key.startswith(mark)]
+            self.put_out([device.mark for device in found])
+            for device in found if ends_link else ():
+                self.keys.pop(device.role, None)
 
     def enter(self, request: Request, role: str, secret: str, name: str) -> tuple[str, str]:
         """The cookie of a device that shows the secret of a role, and its name. If another has that already it gets a
         number, so that a name is that of one device."""
-        self.entering.take(request.address)
-        held = self.keys.get(role, "")
-        if not held or not same(held, hashed(secret)):
-            raise Wrong(403, "this link isn't valid any more: ask for a new one", "link-ended")
         cookie, now = secrets.token_urlsafe(32), self.clock.now()
         # A browser has one cookie of a name for all ports of a computer: each device's has another name.
         cookie_name = f"{beginning_of(role)}-{secrets.token_hex(4)}"
         with self.changing():
+            held = self.keys.get(role, "")
+            if not held or not same(held, hashed(secret)):
+                # Whoever has the link comes in, however many try others from the same address.
+                self.entering.take(request.address)
+                raise Wrong(403, "this link isn't valid any more: ask for a new one", "link-ended")
+            self.coming.take(role)
             if before := self.known(request, role):
                 # It comes again.
                 self.devices.pop(before.mark, None)
                 cookie_name = next(name for name, value in request.cookies(beginning_of(role)) if hashed(value) == before.mark)
-            of_role = sorted((device for device in self.devices.values() if device.role == role),
-                             key=lambda device: device.heard)
-            for device in of_role[:max(0, len(of_role) - DEVICES + 1)]:
-                self.devices.pop(device.mark)
-            device = Device(hashed(cookie), role, self.free_name(plain_name(name) or role.lower()), now, now, 0,
+            self.make_room(role)
+            own = [hashed(value) for _, value in request.cookies(beginning_of(role))]
+            device = Device(hashed(cookie), role, self.free_name(plain_name(name) or role.lower(), own), now, now, 0,
                             request.address)
             self.devices[device.mark] = device
+            self.out = {mark: name for mark, name in self.out.items() if mark not in own}
         secure = "; Secure" if self.is_secure else ""
         return (f"{cookie_name}={cookie}; Path=/office/{role.lower()}; Max-Age={LONG}; HttpOnly; "
                 f"SameSite=Strict{secure}"), device.name
 
-    def free_name(self, name: str) -> str:
-        """A name that no device has, as `iPhone (2)`."""
+    def make_room(self, role: str) -> None:
+        """Puts a device of a role out if there are as many as there may be: the one that was heard last, an hour ago or
+        more. A link that has got about puts out no device that is used."""
+        of_role = [device for device in self.devices.values() if device.role == role]
+        if len(of_role) < DEVICES:
+            return
+        now, watching = self.clock.now(), set(self.watching())
+        quiet = [device for device in of_role
+                 if now - device.heard >= QUIET and device.mark not in watching and not device.unsent]
+        if not quiet:
+            raise Wrong(403, "this role has as many devices as it may have: the scorer can put some out", "devices-full")
+        self.put_out([min(quiet, key=lambda device: device.heard).mark])
+
+    def free_name(self, name: str, own: Sequence[str] = ()) -> str:
+        """A name that no other device has, as `iPhone (2)`. One that comes again after it was put out, by a mark of its `own`,
+        has the number that it had."""
         taken = {device.name.casefold() for device in self.devices.values()}
-        ends = itertools.chain([""], (f" ({number})" for number in itertools.count(2)))
-        return next(free for end in ends if (free := name[:NAME - len(end)].rstrip() + end).casefold() not in taken)
+        taken |= {held.casefold() for mark, held in self.out.items() if mark not in own}
+        before = [held for mark in own if numbered(name, number_of(held := self.out.get(mark, ""))).casefold() == held.casefold()]
+        free = itertools.chain(before, [name], (numbered(name, f" ({number})") for number in itertools.count(2)))
+        return next(one for one in free if one.casefold() not in taken)
 
     def known(self, request: Request, role: str) -> Device | None:
         """The device of a role that a request comes from, if it is one."""

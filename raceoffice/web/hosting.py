@@ -10,6 +10,7 @@ import collections
 import contextlib
 import functools
 import itertools
+import logging
 import socket
 import ssl
 import traceback
@@ -29,18 +30,26 @@ SLOW, HANDSHAKE, BEAT = 20.0, 10.0, 5.0
 BEHIND = 64 << 10
 # After how many milliseconds a browser comes again whose connection has ended.
 RETRY = "retry: 1500\n\n"
-# How many connections this process may have, if its system allows that, and how many files are left to the
-# rest of it. One address may have so many, and leaves at least some to the others.
-ROOM, SPARE, CROWD, OTHERS = 8192, 64, 2000, 256
+# How many connections this process may have, if its system allows that, fewer by HTTPS, where each takes 280 KB. So many
+# files are left to the rest of it, for which a class takes seven, or this part of all. One address may have so many, and
+# leaves at least some to the others.
+ROOM, ROOM_SECURE, SPARE, SPARE_PART, CROWD, OTHERS = 8192, 2048, 512, 4, 2000, 256
 # How many at one address may wait for news of the board: two for each of three hundred phones.
 WATCHING = 600
 # How many requests of a device, or of all strangers at one address, are answered at once, and each second from then on:
 # three hundred phones may have one address.
 AT_ONCE, EACH_SECOND = 600, 300
+# Bytes of an answer that are handed over at a time: a client that takes none of them holds no more.
+PIECE = 64 << 10
 # How many may wait to be let in, and how many are let in at once.
 WAITING, TOGETHER = 1024, 16
 # Seconds for a connection to end in order.
 MOMENT = 1.0
+# What is known of who has a connection: it has asked for nothing yet, is a stranger, or a device that was let in.
+SILENT, STRANGER, DEVICE = range(3)
+# It prints what clients do to connections, and a terminal that was stopped would hold up all of them.
+logging.getLogger("asyncio").addHandler(logging.NullHandler())
+logging.getLogger("asyncio").propagate = False
 
 
 class News:
@@ -98,6 +107,10 @@ class Hub(News):
         # Those who wait, with their names.
         self.waiting: dict[asyncio.StreamWriter, str] = {}
         self.sent = ""
+
+    def names(self) -> set[str]:
+        """Those who wait just now; from any thread."""
+        return set(self.waiting.copy().values())
 
     def put_out(self) -> None:
         """Ends what those get who aren't let in any more; from any thread."""
@@ -167,6 +180,41 @@ class Waiting:
     name: str = ""
 
 
+class Crowd:
+    """The connections of one address that haven't been given up, by what is known of each, in the order in which that was
+    learnt."""
+
+    def __init__(self) -> None:
+        self.known: tuple[dict[asyncio.Task[None], None], ...] = ({}, {}, {})
+
+    def __len__(self) -> int:
+        return sum(map(len, self.known))
+
+    def add(self, visit: asyncio.Task[None]) -> None:
+        self.known[SILENT][visit] = None
+
+    def learn(self, visit: asyncio.Task[None], what: int) -> None:
+        """Notes what is known of one now; a device stays one, whatever it asks for next."""
+        for less in self.known[:what]:
+            if visit in less:
+                del less[visit]
+                self.known[what][visit] = None
+
+    def take_first(self) -> asyncio.Task[None]:
+        """The first one of those of which least is known, which is no part of the crowd any more."""
+        found = next(level for level in self.known if level)
+        visit = next(iter(found))
+        del found[visit]
+        return visit
+
+    def is_removed(self, visit: asyncio.Task[None]) -> bool:
+        """Removes one that has ended; whether it was here."""
+        here = [level for level in self.known if visit in level]
+        for level in here:
+            del level[visit]
+        return bool(here)
+
+
 class Host:
     """Answers at an address. `answer` says what is sent for a request, `room` how many bytes its body may
     have, and `device` the name of the device that it comes from, if that is known; what goes wrong in that is noted."""
@@ -174,17 +222,21 @@ class Host:
     def __init__(self, answer: Callable[[Request], Awaitable[Reply | Waiting]], room: Callable[[Request], int],
                  note: Callable[[str], None], device: Callable[[Request], str] = lambda _: "") -> None:
         self.answer, self.room, self.note, self.device = answer, room, note, device
-        self.most = max(8, system.room_for_files(ROOM) - SPARE)
-        self.most_of_one = max(4, min(CROWD, self.most - OTHERS))
-        self.open = 0
-        # The connections of each address, in the order in which they came, and how many wait for news by their names.
-        self.visits: dict[str, dict[asyncio.Task[None], None]] = {}
+        # How many connections there may be, and of one address; how many there are, and how many of them have been given up
+        # and are about to end, of which there may be some, too.
+        self.most = self.most_of_one = self.open = self.ending = self.most_ending = 0
+        # The connections of each address, and how many wait for news by their names.
+        self.visits: dict[str, Crowd] = {}
         self.watching: collections.Counter[str] = collections.Counter()
         self.turns = Rate(AT_ONCE, EACH_SECOND)
         self.letting_in: asyncio.Task[None] | None = None
 
     async def start(self, address: str, port: int, secure: ssl.SSLContext | None) -> None:
         """Lets in whoever there is room for, until `close`."""
+        files = system.room_for_files(ROOM + SPARE)
+        spare = min(SPARE, files // SPARE_PART)
+        self.most, self.most_ending = max(8, min(ROOM_SECURE if secure else ROOM, files - spare)), spare // SPARE_PART
+        self.most_of_one = min(CROWD, max(self.most // 2, self.most - OTHERS))
         door = door_at(address, port)
         door.listen(WAITING)
         door.setblocking(False)
@@ -209,38 +261,47 @@ class Host:
                     await asyncio.sleep(MOMENT)
                     continue
                 address = str(peer[0])
-                if await self.is_room_for(address):
+                if self.is_room_for(address):
                     self.open += 1
                     visit = asyncio.get_running_loop().create_task(self.visit(link, address, secure))
-                    self.visits.setdefault(address, {})[visit] = None
+                    self.visits.setdefault(address, Crowd()).add(visit)
                     visit.add_done_callback(functools.partial(self.forget, address, link))
                 else:
                     link.close()
                 if number % TOGETHER == 0:
                     # Those who are in have their turn, too.
                     await asyncio.sleep(0)
+                while self.ending > self.most_ending:
+                    # Those that were given up end first.
+                    await asyncio.sleep(0)
 
-    async def is_room_for(self, address: str) -> bool:
-        """Whether an address may have one more connection. If there is no room left, the address that has most gives
-        its newest one up for another that has fewer: so some that take all they get keep out nobody."""
-        held = len(self.visits.get(address, ()))
-        if held >= self.most_of_one:
-            return False
-        if self.open >= self.most:
+    def is_room_for(self, address: str) -> bool:
+        """Whether an address may have one more connection. One that has all it may have gives another up for it; and if there
+        is no room left at all, the address that has most does so for another that has fewer. So some that take all they get
+        keep out nobody, not even at their own address."""
+        own = self.visits.get(address, Crowd())
+        if len(own) >= self.most_of_one:
+            self.give_up(own)
+        elif self.open - self.ending >= self.most:
             greedy = max(self.visits.values(), key=len)
-            if len(greedy) <= held + 1:
+            if len(greedy) <= len(own) + 1:
                 return False
-            newest = next(reversed(greedy))
-            newest.cancel()
-            await asyncio.wait([newest], timeout=MOMENT)
-        return self.open < self.most
+            self.give_up(greedy)
+        return True
+
+    def give_up(self, crowd: Crowd) -> None:
+        """Ends the connection of an address that came first among those of which least is known."""
+        self.ending += 1
+        crowd.take_first().cancel()
 
     def forget(self, address: str, link: socket.socket, visit: asyncio.Task[None]) -> None:
         """Forgets a connection of an address that has ended, perhaps before it began."""
         link.close()
         self.open -= 1
-        self.visits[address].pop(visit)
-        if not self.visits[address]:
+        crowd = self.visits.get(address)
+        if crowd is None or not crowd.is_removed(visit):
+            self.ending -= 1
+        if crowd is not None and not len(crowd):
             del self.visits[address]
 
     async def visit(self, link: socket.socket, address: str, secure: ssl.SSLContext | None) -> None:
@@ -278,7 +339,9 @@ class Host:
             return False
         # However many requests have come already, those of others have their turn in between. Strangers don't take the
         # turns of a device that has their address.
-        await asyncio.sleep(self.turns.pause(self.device(request) or address))
+        device = self.device(request)
+        self.learn(address, DEVICE if device else STRANGER)
+        await asyncio.sleep(self.turns.pause(device or address))
         try:
             reply = await self.answer(request)
         except Wrong as wrong:
@@ -288,8 +351,14 @@ class Host:
             return False
         is_last = request.fields.get("connection", "").lower() == "close"
         await send(writer, bytes_of(packed(request, reply), is_last, request.method == "HEAD"))
-        return not is_last
+        # A client that has gone gets no more answers, whatever it asked in advance.
+        return not is_last and not writer.transport.is_closing()
 
+    def learn(self, address: str, what: int) -> None:
+        """Notes what is known of who has the connection that is served just now."""
+        visit, crowd = asyncio.current_task(), self.visits.get(address)
+        if visit is not None and crowd is not None:
+            crowd.learn(visit, what)
 
     async def send_news(self, reader: asyncio.StreamReader, writer: asyncio.StreamWriter, reply: Waiting,
                         address: str) -> None:
@@ -318,19 +387,27 @@ async def streams_of(link: socket.socket,
     return reader, asyncio.StreamWriter(transport, protocol, reader, loop)
 
 
-async def send(writer: asyncio.StreamWriter, data: bytes) -> None:
-    writer.write(data)
-    if writer.transport.get_write_buffer_size():
-        with within(writer, SLOW):
-            await writer.drain()
+async def send(writer: asyncio.StreamWriter, data: tuple[bytes, bytes]) -> None:
+    """Sends the head and the body of an answer, as far as they are taken."""
+    head, body = data
+    with within(writer, SLOW):
+        for start in range(0, max(1, len(body)), PIECE):
+            if writer.transport.is_closing():
+                return
+            writer.write((b"" if start else head) + body[start:start + PIECE])
+            if writer.transport.get_write_buffer_size():
+                await writer.drain()
 
 
 async def end(writer: asyncio.StreamWriter) -> None:
-    """Ends a connection. What hasn't been taken a moment later won't be."""
-    writer.close()
-    with contextlib.suppress(Exception):
-        await asyncio.wait_for(writer.wait_closed(), MOMENT)
-    writer.transport.abort()
+    """Ends a connection. What hasn't been taken a moment later won't be, nor when it is given up meanwhile: its socket is left
+    before somebody else's has the same number."""
+    try:
+        writer.close()
+        with contextlib.suppress(Exception):
+            await asyncio.wait_for(writer.wait_closed(), MOMENT)
+    finally:
+        writer.transport.abort()
 
 
 def secure_with(certificate: str, key: str) -> ssl.SSLContext:

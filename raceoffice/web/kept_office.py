@@ -9,7 +9,7 @@ from collections.abc import Callable
 
 from raceoffice import system
 from raceoffice.errors import Fault, NotSent, Trouble
-from raceoffice.office.before_opening import Ask, is_meant, is_right, mend, question_of_rules
+from raceoffice.office.before_opening import Ask, is_meant, is_right, keep_rules, mend, question_of_rules
 from raceoffice.office.keeping import Keeping
 from raceoffice.program.messages import move_text
 from raceoffice.remarks import Remark, in_a_row, remark
@@ -17,6 +17,7 @@ from raceoffice.series import settings
 from raceoffice.series.folder import Folder, Lock, clock
 from raceoffice.series.health import disk_fault, faults, journal_fault, notes, summary
 from raceoffice.series.remove_boat import also_changed, moves_without, removal_of, take_out
+from raceoffice.series.run_program import settings_in_force
 from raceoffice.session.dialogue import Question
 from raceoffice.session.question_words import question
 from raceoffice.terminal import sentence
@@ -81,9 +82,9 @@ class KeptOffice:
 
     # Opening
 
-    def open(self, ask: Ask) -> bool:
+    def open(self, ask: Ask, as_it_was: bool = False) -> bool:
         """Opens the office, joins one that a window has, or takes over one whose window has gone; whether one
-        is open then."""
+        is open then. One that is opened `as_it_was` goes by the rules in force, and nobody is asked about others."""
         if self.is_shut():
             return self.open_again_with_settings(ask)
         with self.lock:
@@ -94,7 +95,7 @@ class KeptOffice:
                 return True
             try:
                 with guarded(self.folder.path, Asked):
-                    return self.is_opened(ask)
+                    return self.is_opened(ask, as_it_was)
             except Trouble as trouble:
                 self.say(sentence(trouble))
                 return False
@@ -104,9 +105,19 @@ class KeptOffice:
         keeping = self.keeping
         return keeping is not None and not keeping.service.is_over() and not keeping.service.lets_in()
 
-    def is_opened(self, ask: Ask) -> bool:
+    def is_opened(self, ask: Ask, as_it_was: bool) -> bool:
         # They may have been changed since.
         self.folder.settings = settings.read(self.folder.path)
+        if as_it_was:
+            keep_rules(self.folder, self.say)
+        try:
+            return self.is_kept(ask)
+        finally:
+            # Rules that nobody has agreed to wait, and another window's office has its own.
+            self.folder.settings = settings_in_force(self.folder)
+
+    def is_kept(self, ask: Ask) -> bool:
+        """Whether the office is open with the settings as the folder has them."""
         self.folder.make_private()
         keep_zone(self.folder, self.say)
         if fault := disk_fault(self.folder):
@@ -129,12 +140,10 @@ class KeptOffice:
         """Whether this process keeps the office now."""
         if keeping.service.lock.is_taken():
             try:
-                keeping.service.take_over(is_yes)
+                keeping.take_over(is_yes)
             except Trouble as trouble:
                 self.say(in_a_row(sentence(trouble), remark("office-joined")))
                 return False
-            self.folder.set_closing(False)
-            self.folder.set_beware("")
         else:
             mend(self.folder, ask)
             if not (is_right(self.folder, self.say) and is_meant(self.folder, self.say, ask)):
@@ -203,7 +212,7 @@ class KeptOffice:
             asked.append(question)
             return False
         pause = SOON
-        while not self.open(note):
+        while not self.is_left.is_set() and not self.open(note, as_it_was=True):
             if asked:
                 self.say(remark("office-waits"))
                 return
@@ -218,8 +227,10 @@ class KeptOffice:
         """Closes the office, which lets everybody leave first; whether it was this process that kept it. One
         that a window keeps stays open."""
         self.is_left.set()
-        if not self.keeping:
-            return False
+        with self.lock:
+            # One that is being opened just now is closed, too.
+            if not self.keeping:
+                return False
         self.comes_back = comes_back
         self.is_asked_to_close = True
         self.is_ended.wait()
@@ -232,8 +243,6 @@ class KeptOffice:
         # Once it is closed, an office that can't be kept couldn't be opened again.
         if fault := journal_fault(fresh) or disk_fault(fresh):
             raise NotSent(fault)
-        if asked := question_of_rules(fresh):
-            ask(asked)
         wanted = question_of_removal(fresh, sail)
         ask(wanted)
         was_open = self.close(comes_back=True)
@@ -241,7 +250,7 @@ class KeptOffice:
             copy, fault = self.taken_out(fresh, sail, by, wanted)
         finally:
             if was_open:
-                self.open(lambda _: False)
+                self.open(lambda _: False, as_it_was=True)
         self.say(remark("office-out", sail=sail, copy=copy), *([remark("office-no-copy", why=fault)] if fault else []))
         return copy
 
@@ -272,10 +281,10 @@ class KeptOffice:
         fresh = self.folder_alone()
         if wrong := faults(fresh):
             raise NotSent(*wrong)
-        if asked := question_of_rules(fresh):
-            ask(asked)
+        asked = question_of_rules(fresh)
+        as_it_was = bool(asked and not ask(asked))
         self.close(comes_back=True)
-        return self.open(ask)
+        return self.open(ask, as_it_was)
 
 
 def question_of_removal(folder: Folder, sail: str) -> Question:

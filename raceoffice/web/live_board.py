@@ -1,6 +1,7 @@
 """The board of the classes that the web serves: made of what the rooms know already, when that changes."""
 from __future__ import annotations
 
+import copy
 import time
 from collections.abc import Callable, Sequence
 
@@ -9,7 +10,7 @@ from raceoffice.program.link import Sheet
 from raceoffice.results.http_answers import Board
 from raceoffice.results.publish import Site, served
 from raceoffice.results.source import ResultsSource
-from raceoffice.series.run_program import opened_rules
+from raceoffice.series.run_program import rules_in_force
 from raceoffice.terminal import Once, sentence
 from raceoffice.traces import guarded
 from raceoffice.web.room import Room
@@ -22,14 +23,15 @@ class RoomSource(ResultsSource):
     """The results of a class whose office the web is linked to. No office is asked for them."""
 
     def __init__(self, room: Room) -> None:
-        super().__init__(room.folder.path)
+        # Its settings are known, also while somebody who edits them has made a mistake, or has moved the folder away.
+        super().__init__(room.folder.path, copy.copy(room.folder))
         self.room, self.seen, self.opening = room, 0, -1
 
     def from_office(self) -> Sheet:
         if self.room.trouble:
             raise Trouble(self.room.trouble)
         if self.opening != self.room.openings:
-            self.opening, self.rules = self.room.openings, opened_rules(self.folder)
+            self.opening, self.rules = self.room.openings, rules_in_force(self.folder)
         return self.room.facts.sheet
 
     def from_journal(self) -> Sheet:

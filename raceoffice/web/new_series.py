@@ -53,7 +53,8 @@ def list_shown(values: Mapping[str, Any]) -> Values:
              for boat, (_, row) in zip(found.boats, table.rows)] if table else []
     return {"wrong": remarks_of(found.wrong), "done": remarks_of(found.done), "heads": found.heads, "boats": boats,
             "ratings": [table.heads[at] for at in ratings] if table else [],
-            "is_sail_known": found.is_sail_known, "text": found.data.decode("utf-8", "replace")}
+            "is_sail_known": found.is_sail_known, "text": found.data.decode("utf-8", "replace"),
+            "numbered": found.numbered.decode("utf-8", "replace")}
 
 
 def settings_given(values: object) -> dict[str, str]:
@@ -121,7 +122,7 @@ def rating_notes(data: bytes, is_rated: bool, system: str) -> list[Remark]:
 def folder_made(parent: str, values: Mapping[str, Any]) -> str:
     """Makes the folder of a new series; its path. It comes to be whole, in one step, and nothing is written over.
     The same again, as after a crash, gives the same folder."""
-    name = str(values.get("name", ""))
+    name = str(values.get("name", "")).lower()
     if not FOLDER.fullmatch(name):
         raise NotSent(remark("short-name"))
     path, fresh = os.path.join(parent, name), os.path.join(parent, f".{secrets.token_hex(8)}.new")

@@ -73,6 +73,9 @@ class PageNews(News):
         text = self.board.texts.get(address)
         looker = Looker(address, text.tag if text else "", takes_gzip)
         link = writer.get_extra_info("socket")
+        if link is None:
+            # By HTTPS there is none any more once the client has gone.
+            return
         link.setsockopt(socket.IPPROTO_TCP, socket.TCP_NOTSENT_LOWAT, UNSENT)
         begin = RETRY.encode()
         if takes_gzip:

@@ -22,8 +22,7 @@ from raceoffice.program.replay import Line, scored
 from raceoffice.program.standing import Standing
 from raceoffice.remarks import Remark, remark
 from raceoffice.series.folder import Folder
-from raceoffice.series.run_program import opened_rules, replayed
-from raceoffice.series.settings import Settings
+from raceoffice.series.run_program import options_in_force, replayed
 from raceoffice.series.settings import rows_of as lines_of
 from raceoffice.session.facts import Facts
 from raceoffice.web.states import Values, moves_of, remarks_of, rows_of
@@ -53,21 +52,11 @@ class Ruled:
     stays: str = ""
 
 
-def opened_settings(folder: Folder) -> Settings:
-    """The settings with the rules of the open office: series.ini may have been changed since."""
-    return Settings(**{**vars(folder.settings), **opened_rules(folder)})
-
-
-def options_of(folder: Folder) -> list[str]:
-    """The rules of the open office."""
-    return opened_settings(folder).options()
-
-
 def preview(folder: Folder, facts: Facts, lines: Sequence[Line]) -> Values:
     """Whom these lines would move; or why the program refuses them."""
     entries = len(facts.sheet.journal)
     try:
-        after = scored(folder.program, options_of(folder), facts.sheet.journal, lines)
+        after = scored(folder.program, options_in_force(folder), facts.sheet.journal, lines)
     except Trouble as trouble:
         return {"refused": remarks_of(trouble.said), "entries": entries}
     standing = Standing.read(list(after.table))
@@ -79,7 +68,7 @@ def preview(folder: Folder, facts: Facts, lines: Sequence[Line]) -> Values:
 def why_refused(folder: Folder, facts: Facts, lines: Sequence[Line]) -> Sequence[str]:
     """Why the program would refuse one of these lines; empty if it takes them all."""
     try:
-        scored(folder.program, options_of(folder), facts.sheet.journal, lines)
+        scored(folder.program, options_in_force(folder), facts.sheet.journal, lines)
     except Trouble as trouble:
         return trouble.said
     return ()
@@ -89,7 +78,7 @@ def effect_of_rules(folder: Folder, facts: Facts, options: list[str]) -> Values:
     """Whom other rules would move, by a replay of the journal that is on the disk, and which decisions would be
     out of date; or why the program refuses them."""
     try:
-        before, after = replayed(folder, options_of(folder)), replayed(folder, options)
+        before, after = replayed(folder, options_in_force(folder)), replayed(folder, options)
     except Trouble as trouble:
         return {"refused": remarks_of(trouble.said), "moves": [], "stale": []}
     text = decision_lines.read(folder.path)
@@ -110,7 +99,7 @@ def decide(folder: Folder, facts: Facts, ruling: str, known: Entries = NO_ENTRIE
     `known` are the entries of earlier decisions."""
     before = decision_lines.read(folder.path)
     text, name = with_ruling(before, facts, ruling, note)
-    first, options = lines_before(before, ruling, facts, known), options_of(folder)
+    first, options = lines_before(before, ruling, facts, known), options_in_force(folder)
     journal = scored(folder.program, options, facts.sheet.journal, first).journal if first else facts.sheet.journal
     found = decided(folder.program, options, journal, text)
     mine = [verdict for verdict in found.verdicts if str(verdict.ruling) == name]
@@ -152,7 +141,7 @@ def reopened(folder: Folder, facts: Facts, given: str, known: Entries = NO_ENTRI
     lines = without_one(race, sail, code, holdings(journal)[race, sail])
     if not lines:
         raise NotSent(remark("decision-gone"))
-    options = options_of(folder)
+    options = options_in_force(folder)
     after = scored(folder.program, options, journal, lines).journal
     found = decided(folder.program, options, after, before).verdict(race, sail) if before.strip() else None
     due = found.lines if found else ()
@@ -170,7 +159,7 @@ def times_left(folder: Folder, facts: Facts, lines: Sequence[Line]) -> list[Line
         # What keeps the times from being worked out is shown beside the sheet, and a line that is refused by the preview.
         with contextlib.suppress(Trouble):
             if has_sheet(folder, race):
-                journal = scored(folder.program, options_of(folder), facts.sheet.journal, lines).journal
+                journal = scored(folder.program, options_in_force(folder), facts.sheet.journal, lines).journal
                 own = Sheets(folder).beside(race, journal, others_in(folder, race, sail)).lines
                 found += [Line("SCORER", text) for text in own]
     return found
@@ -227,7 +216,7 @@ def keep_decisions(folder: Folder, found: Ruled) -> None:
 def decisions_shown(folder: Folder, facts: Facts, known: Entries) -> list[Values]:
     """The decisions of the class, and what each comes to now."""
     text, journal = decision_lines.read(folder.path), facts.sheet.journal
-    return decided_shown(decided(folder.program, options_of(folder), journal, text), journal, known) if text.strip() else []
+    return decided_shown(decided(folder.program, options_in_force(folder), journal, text), journal, known) if text.strip() else []
 
 
 def decided_shown(found: Decided, journal: Sequence[str], known: Entries = NO_ENTRIES) -> list[Values]:

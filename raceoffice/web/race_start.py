@@ -25,7 +25,7 @@ UNNAMED = "-"
 
 def starts_given(register: Register, race: int) -> list[Sent]:
     """The taps that gave a race a start, in the order in which they were done."""
-    return [one for one in register.sent.values() if "/" not in one.id and one.line.split()[:-1] == ["START", str(race)]
+    return [one for one in register.all() if "/" not in one.id and one.line.split()[:-1] == ["START", str(race)]
             and one.answer.startswith(("OK ", "NOTED"))]
 
 
@@ -107,7 +107,7 @@ def moments_of(zone: Zone, clock: str, near: datetime.datetime) -> Iterator[date
 def by_clock_of_start(folder: Folder, register: Register, race: int, sheet: SheetOfRace, at: int) -> None:
     """Puts the finishes that were tapped before a start was given, at `at`, by the clock that the race has then."""
     start, zone = sheet.starts[0] if sheet.starts else "", zone_of_race(folder, register, race, at)
-    for sent in list(register.sent.values()):
+    for sent in register.all():
         words = sent.line.split()
         if words[:2] != ["FINISH", str(race)] or len(words) != 3 or not sent.made or not sent.at:
             continue

@@ -23,6 +23,8 @@ HEAD_TIME, BODY_TIME, IDLE = 10.0, 30.0, 70.0
 # its path. Whatever it has, reading it takes the thread of all connections about a millisecond.
 HEAD, LINE = 16 << 10, 2 << 10
 FIELDS, COOKIES, PARTS = 100, 200, 16
+# At how many offices of a computer a browser may be at once
+OFFICES = 16
 REASONS = {200: "OK", 204: "No Content", 301: "Moved Permanently", 304: "Not Modified",
            400: "Bad Request", 401: "Unauthorized", 403: "Forbidden", 404: "Not Found",
            405: "Method Not Allowed", 408: "Request Timeout", 409: "Conflict", 413: "Content Too Large",
@@ -94,7 +96,7 @@ class Request:
     def cookies(self, beginning: str) -> list[tuple[str, str]]:
         """The cookies whose names begin so: their names and values."""
         pairs = (part.strip().partition("=") for part in self.fields.get("cookie", "").split(";", COOKIES))
-        return [(name, value) for name, _, value in pairs if name.startswith(beginning)]
+        return [(name, value) for name, _, value in pairs if name.startswith(beginning)][:OFFICES]
 
     @property
     def takes_gzip(self) -> bool:
@@ -155,8 +157,8 @@ def zipped(data: bytes, level: int) -> bytes:
     return gzip.compress(data, level, mtime=0)
 
 
-def bytes_of(reply: Reply, is_last: bool, is_head: bool) -> bytes:
-    """A whole answer."""
+def bytes_of(reply: Reply, is_last: bool, is_head: bool) -> tuple[bytes, bytes]:
+    """The head and the body of an answer. A body is never copied: many may ask for the same."""
     safe = SAFE_PART if reply.is_part else SAFE
     fields = {"Date": formatdate(usegmt=True), **safe, "Cache-Control": "no-store", **reply.fields,
               **({"Connection": "close"} if is_last else {})}
@@ -167,7 +169,7 @@ def bytes_of(reply: Reply, is_last: bool, is_head: bool) -> bytes:
         fields |= {"Content-Type": kind, "Content-Length": str(len(reply.data))}
     lines = [f"HTTP/1.1 {reply.status} {REASONS[reply.status]}",
              *(f"{name}: {value}" for name, value in fields.items()), "", ""]
-    return "\r\n".join(lines).encode("latin-1") + (b"" if is_head else reply.data)
+    return "\r\n".join(lines).encode("latin-1"), b"" if is_head else reply.data
 
 
 # Reading

@@ -9,7 +9,7 @@ import re
 import secrets
 import threading
 import time
-from collections.abc import Callable, Sequence
+from collections.abc import Callable, Iterator, Sequence
 
 from raceoffice import system
 from raceoffice.errors import Lost, NoSeat, NotNow, NotSent, Served, Trouble, as_trouble
@@ -19,9 +19,12 @@ from raceoffice.program.link import Link, Sheet
 from raceoffice.program.standing import Standing
 from raceoffice.remarks import packed, remark
 from raceoffice.results.decisions_now import FILE, DecisionsNow
+from raceoffice.results.snapshot import labelled
+from raceoffice.series.abandoned import abandonments
 from raceoffice.series.folder import Folder
 from raceoffice.series.kept_places import History, Places
 from raceoffice.series.lost_lines import as_kept
+from raceoffice.series.run_program import settings_in_force
 from raceoffice.session.facts import Facts
 from raceoffice.session.question_words import question
 from raceoffice.session.undo import later_entry
@@ -33,13 +36,13 @@ from raceoffice.web.race_start import clock_shown
 from raceoffice.web.row_changes import TAKING, entries_of_starts, is_timed_again, recorded_again
 from raceoffice.web.sheet_waits import with_reasons
 from raceoffice.web.states import (Values, boats_of, moves_of, races_of, rules_of, said_of, standing_of, unlisted)
-from raceoffice.web.tap_session import DROPPED, TapSession
-from raceoffice.web.taps import PLACED, Register, Sent, Tap, number_of, said_again
+from raceoffice.web.tap_session import TapSession
+from raceoffice.web.taps import DROPPED, PLACED, Register, Sent, Tap, number_of, said_again
 from raceoffice.web.timed_taps import TimedTap, is_timed_tap, sheets_shown, with_typed_times
 from raceoffice.web.timed_undo import timed_undo
 
 # Seconds between two looks at whether the journal has grown, and between two tries at an office that isn't
-# open, or has no seat: each of those uses up one of its sessions.
+# open, or has no seat.
 LOOK, AGAIN, LATER = 0.1, 1.0, 5.0
 # Seconds that a tap waits for another of its class: a page waits for its answer a little longer.
 PATIENCE = 5.0
@@ -59,6 +62,7 @@ class Room:
         # One tap at a time, and one look at a time; who needs both takes them in this order.
         self.lock, self.looking = threading.RLock(), threading.RLock()
         folder.make_private()
+        folder.settings = settings_in_force(folder)
         self.held = held_alone(folder, address)
         try:
             self.register = Register(folder.file(PRIVATE, "web.taps"))
@@ -106,6 +110,7 @@ class Room:
         self.openings += not was_open
         if self.files != (files := self.files_now()) or not was_open:
             # An office that has come may have other settings, too.
+            self.folder.settings = settings_in_force(self.folder)
             self.files, fresh = files, Facts(self.folder)
         elif before.sheet == sheet and was_open:
             return
@@ -114,10 +119,13 @@ class Room:
         fresh.read(sheet)
         self.facts, self.trouble = fresh, ""
         self.register.learn(sheet.journal)
-        moves = moves_of(before.standing, fresh.standing, fresh) if was_open else []
-        if moves:
+        moves = moves_of(before.standing, fresh.standing, fresh)
+        if moves and was_open:
             _, _, role, line = sheet.journal[-1].split(maxsplit=3)
             self.last = {"at": int(time.time() * 1000), "moves": moves, "line": line, "role": role}
+        elif moves:
+            # No line did that: other rules have, or a boat that was taken out.
+            self.last = {}
         self.look_at_places()
         self.news()
 
@@ -147,7 +155,8 @@ class Room:
             "handicap": settings.handicap, "zone": clock_shown(self.folder), "rules": settings.in_words(), "settings": rules_of(settings),
             "boats": boats_of(facts), "races": self.races(facts)}
         if is_whole:
-            found |= {"standing": standing_of(facts.standing), "last": self.last,
+            labels = self.decisions.look(facts.sheet).labels
+            found |= {"standing": standing_of(labelled(facts.standing, labels)), "last": self.last,
                       "unlisted": unlisted(facts), "journal": facts.sheet.journal[-SHOWN:],
                       "unfinished": self.register.unfinished(facts.sheet.journal),
                       "decisions": self.decisions_now(facts)}
@@ -167,8 +176,10 @@ class Room:
 
     def moments(self, facts: Facts) -> Moments:
         """When each finisher crossed the line, and who recorded her, as far as that is known. A boat that was put into a
-        place did when that was kept."""
-        found = self.register.moments(facts.sheet.journal)
+        place did when that was kept. What was tapped before the race was abandoned is of another sailing."""
+        abandoned = abandonments(self.folder)
+        found = {finisher: moment for finisher, moment in self.register.moments(facts.sheet.journal).items()
+                 if moment[0] > abandoned.get(finisher[0], 0)}
         for race in {note.race for note in self.history.placed}:
             marks = self.times_of_places(self.history, race)
             for sail, mark in self.history.boats_in_places(race).items():
@@ -259,6 +270,7 @@ class Room:
         if not self.lock.acquire(timeout=PATIENCE):
             raise Trouble(remark("line-before"))
         try:
+            self.register.need_own()
             # While the office is away, the journal that it will have may lack what was answered.
             if not self.trouble and (done := self.done(tap)):
                 return done
@@ -319,6 +331,8 @@ class Room:
         has typed it again. That of a boat who was taken out since is meant to be gone."""
         if sent.place and not self.trouble:
             return not self.register.has_place(sent, self.places.read(self.facts.commands))
+        if sent.ended_or_again and not self.trouble:
+            return is_gone(sent, self.places.read(self.facts.commands))
         line, journal = sent.own.split(maxsplit=3)[3] if sent.own else "", self.facts.sheet.journal
         if self.trouble or not line or sent.own in journal:
             return False
@@ -333,7 +347,7 @@ class Room:
         """Notes what came of each tap that was begun and never ended, as the journal has it now."""
         with self.lock:
             self.register.learn(self.facts.sheet.journal)
-            for sent in [one for one in self.register.sent.values() if not one.answer and one.line.split()]:
+            for sent in [one for one in self.register.all() if not one.answer and one.line.split()]:
                 self.answered(sent.id)
 
     def answer_found(self, sent: Sent) -> tuple[str, str]:
@@ -348,13 +362,15 @@ class Room:
             return (f"OK {entry}" if entry else "", "")
         race = self.facts.race(rest[0]).number
         history = self.places.read(self.facts.commands)
+        if sent.id in history.taps:
+            return "NOTED", history.taps[sent.id].place
         if rest[1:]:
             ended = history.ended.get((race, first))
             is_dropped = ended is not None and ended.what == "dropped"
             return ("NOTED", first) if is_dropped == (rest[1:] == [DROPPED]) else ("", "")
         claimed = self.register.marks_of(race, sent.window)
         kept = [note.place for note in history.kept.values()
-                if (note.race, note.window) == (race, sent.window) and note.place not in claimed]
+                if (note.race, note.window) == (race, sent.window) and note.place not in claimed and not note.tap]
         return ("NOTED", kept[-1]) if kept else ("", "")
 
     def done_now(self, session: TapSession, tap: Tap) -> Values:
@@ -385,6 +401,19 @@ class Room:
                 self.last = self.change_of(before, sent.line, session.role) or last
         self.news()
         return outcome_of(sent, False, self.facts.sheet.journal)
+
+    @contextlib.contextmanager
+    def one_change(self) -> Iterator[None]:
+        """What is sent inside, as the lines of a correction or a decision, is shown as one change."""
+        before, last, count = self.facts.standing, self.last, len(self.facts.sheet.journal)
+        try:
+            yield
+        finally:
+            with self.looking:
+                journal = self.facts.sheet.journal
+                if len(journal) > count + 1:
+                    _, _, role, line = journal[-1].split(maxsplit=3)
+                    self.last = self.change_of(before, line, role) or last
 
     def change_of(self, before: Standing, line: str, role: str) -> Values:
         """Whom a tap of several lines has moved in all, as each of them alone has moved others; empty if nobody."""
@@ -431,8 +460,17 @@ class Room:
             line, session.later = line_in_order(session.facts, self.times_in(session, order), own, tap, line, order)
         self.ask_again(session, tap, line)
         if line.startswith(("BEFORE ", "TIE ")) and not session.later:
-            session.need_agreed(asked_of_new_places(session, line, self.order_with_places(session, session.facts.race(line.split()[1]))))
+            line, session.later = self.beside_new_places(session, line)
         return line
+
+    def beside_new_places(self, session: TapSession, line: str) -> tuple[str, str]:
+        """The line of a boat that is put ahead of another, or level with her, and the place that she is just ahead of: she is
+        of one if somebody has said that she didn't finish after it."""
+        _, number, sail, other, *_ = [*line.split(), ""]
+        for asked in asked_of_new_places(session, line, self.order_with_places(session, session.facts.race(number))):
+            if not session.is_agreed(asked):
+                return f"BEFORE {number} {sail} {other}", str(asked.values["mark"])
+        return line, ""
 
     def later_of_place(self, session: TapSession, tap: Tap, number: str) -> str:
         """Who finished after the one whose place a tap keeps; empty if nobody who is recorded did."""
@@ -522,6 +560,16 @@ def held_alone(folder: Folder, address: str = "") -> int:
         os.ftruncate(file, 0)
         os.pwrite(file, address.encode(), 0)
     return file
+
+
+def is_gone(sent: Sent, history: History) -> bool:
+    """Whether the notes lack that a tap ended a place, or kept it again, and it isn't so by another: an older office/places
+    may have been put back."""
+    key = sent.ended_or_again
+    ended = history.ended.get(key) if key else None
+    is_dropped = ended is not None and ended.what == "dropped"
+    is_as_said = is_dropped if sent.line.endswith(DROPPED) else key in history.kept and not is_dropped
+    return sent.id not in history.taps and not is_as_said
 
 
 def stamp_of(path: str) -> object:

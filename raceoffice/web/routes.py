@@ -7,6 +7,7 @@ import contextlib
 import functools
 import json
 import os
+import re
 import secrets
 import time
 from collections.abc import Callable
@@ -129,14 +130,17 @@ class Routes:
             raise Wrong(405)
         if request.path == "/live":
             return self.news_of_page(request)
-        if request.path == "/" and not self.office.classes:
-            self.need_a_class()
-            return Reply(301, "text/plain", b"", {"Location": "/office/"})
         address, texts = address_of(request.path), self.office.board.texts
         if address in texts:
+            # Also if no class is served any more: the last pages say when they were made.
             return of_text(request, texts[address])
+        if address == "/" and not self.office.classes:
+            self.need_a_class()
+            return Reply(301, "text/plain", b"", {"Location": "/office/"})
         if f"{address}/" in texts:
             return Reply(301, "text/plain", b"", {"Location": f"{address}/"})
+        if "text/html" in request.fields.get("accept", ""):
+            return Reply(404, *self.file("missing.html"))
         raise Wrong(404, "there is no such page here")
 
     def news_of_page(self, request: Request) -> Waiting:
@@ -278,7 +282,7 @@ class Routes:
         match rest:
             case ["line", name]:
                 return self.line(request, role, device, self.room(name))
-            case ["preview", name]:
+            case ["preview", name] if role in ("JURY", "SCORER"):
                 return self.preview(request, role, self.room(name))
             case ["ruling", name] if role == "JURY":
                 return self.ruling(request, self.room(name))
@@ -286,7 +290,7 @@ class Routes:
                 return self.decide(request, device, self.room(name))
             case ["leave"]:
                 request.values()
-                self.gate.revoke(device.mark)
+                self.gate.revoke(device.mark, False)
                 return reply_of({})
         if role == "SCORER":
             return self.write_as_scorer(request, device, rest)
@@ -413,7 +417,7 @@ class Routes:
         return f"{self.office.address}office/in#{role.lower()}.{secret}"
 
     def open(self, request: Request, room: Room) -> Reply:
-        """Opens an office. What is asked before is answered by yes beforehand, or comes back."""
+        """Opens an office. What is asked before is answered beforehand, or comes back."""
         office = self.office.classes[room.folder.name].office
         is_open = office.open(asked_of(request))
         return reply_of({"open": is_open, "said": office.words()})
@@ -506,12 +510,16 @@ class Routes:
         return self.serve(new_series.folder_made(self.office.parent, request.values()))
 
     def serve(self, path: str) -> Reply:
-        """Serves one more class, if it isn't served already, and opens its office. What would be asked before waits
-        for the scorer."""
+        """Serves one more class, if it isn't served already, and opens its office. If something is asked before, it stays
+        closed until the scorer opens it."""
         found = self.office.classes.get(os.path.basename(path))
         is_here = found and os.path.samefile(found.room.folder.path, path)
         office = (found if found and is_here else self.office.add(Folder(path))).office
-        is_open = office.open(lambda _: False)
+        is_open = False
+        try:
+            is_open = office.open(ask_later)
+        except Asked:
+            office.say(remark("office-waits"))
         return reply_of({"class": os.path.basename(path), "open": is_open, "said": office.words()})
 
 
@@ -537,12 +545,14 @@ def worker_of(files: dict[str, tuple[str, bytes]]) -> bytes:
 
 
 def shorter(kind: str, data: bytes) -> bytes:
-    """A script without its comments, and scripts, styles and texts without the space before their lines: phones
+    """A script or a style without its comments, and scripts, styles and texts without the space before their lines: phones
     load them over weak lines."""
     if kind not in (KINDS[".js"], KINDS[".css"], JSON):
         return data
+    if kind == KINDS[".css"]:
+        data = re.sub(rb"/\*.*?\*/", b"", data, flags=re.DOTALL)
     lines = [line.strip() for line in data.splitlines()]
-    return b"\n".join(line for line in lines if not line.startswith(b"//")) + b"\n"
+    return b"\n".join(line for line in lines if line and not line.startswith(b"//")) + b"\n"
 
 
 def send_waiting(room: Room, by: str, sail: str) -> None:
@@ -599,24 +609,31 @@ def is_idle(done: Values) -> bool:
     return done["outcome"] == "refused" or done["outcome"] == "noted" and str(done["line"]).startswith(("ABANDON ", "UNDO"))
 
 
-def agreed_of(request: Request) -> tuple[Question, ...]:
-    """The questions that were answered by yes."""
+def agreed_of(request: Request, name: str = "agreed") -> tuple[Question, ...]:
+    """The questions that were answered by yes; those that were `denied`, by no."""
     try:
-        return agreed_in(request.values())
+        return agreed_in(request.values(), name=name)
     except NoTap:
-        raise Wrong(400, "agreed isn't a list of questions") from None
+        raise Wrong(400, f"{name} isn't a list of questions") from None
 
 
 def asked_of(request: Request) -> Callable[[Question], bool]:
-    """What asks: a question that was answered by yes is one, and any other comes back."""
-    agreed = agreed_of(request)
+    """What asks: a question that was answered by yes or by no has its answer, and any other comes back."""
+    agreed, denied = agreed_of(request), agreed_of(request, "denied")
 
     def ask(question: Question) -> bool:
+        if question in denied:
+            return False
         if question not in agreed:
             raise Asked(question, [])
         return True
 
     return ask
+
+
+def ask_later(question: Question) -> bool:
+    """Answers nothing: an office may be opened after a no, too."""
+    raise Asked(question, [])
 
 
 def check_command(line: str, role: str) -> None:

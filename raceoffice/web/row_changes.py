@@ -38,7 +38,7 @@ def cells_of(sheet: SheetOfRace, sail: str) -> Cells:
 
 def taps_since(register: Register, sent: Sent) -> list[Sent]:
     """The taps for the same row that were begun after another, in their order."""
-    later = itertools.takewhile(lambda one: one is not sent, reversed(register.sent.values()))
+    later = itertools.takewhile(lambda one: one is not sent, register.all_reversed())
     return [one for one in later if "/" not in one.id and row_of(one.line) == row_of(sent.line)][::-1]
 
 
@@ -63,8 +63,8 @@ def is_answered(session: TapSession, sent: Sent) -> bool:
 
 def entries_of_starts(register: Register) -> set[str]:
     """The entries by which races were timed again that got another start: nobody has struck those boats."""
-    starts = {one.id for one in register.sent.values() if one.line.startswith("START ")}
-    return {one.own for one in register.sent.values() if main_of(one) in starts}
+    starts = {one.id for one in register.all() if one.line.startswith("START ")}
+    return {one.own for one in register.all() if main_of(one) in starts}
 
 
 def is_timed_again(lines: Sequence[str]) -> bool:
@@ -92,7 +92,7 @@ def last_after_strike(lines: Sequence[str]) -> str:
 def others_of_row(session: TapSession, line: str) -> list[Sent]:
     """What other devices have changed of a boat's finish in the sheet since the tap of this session."""
     tap, journal = session.tap, session.facts.sheet.journal
-    return [one for one in session.register.sent.values()
+    return [one for one in session.register.all()
             if "/" not in one.id and one.line.startswith(("STRIKE ", "FINISH ", "ELAPSED ")) and row_of(one.line) == row_of(line)
             and one.by != session.name and has_changed(one) and (one.at > tap.at or number_of(one, journal) > tap.seen)]
 
@@ -112,7 +112,7 @@ def other_since(session: TapSession, sent: Sent) -> Remark | None:
               and is_in_way(sent.line, one.line)]
     mains = {one.id for one in others}
     # Whoever changes a start or another row sends what follows from it for all boats.
-    known = {one.own for one in register.sent.values() if is_part(register, one) and main_of(one) not in mains}
+    known = {one.own for one in register.all() if is_part(register, one) and main_of(one) not in mains}
     known |= register.entries_by(sent.by, session.facts.sheet.journal)
     for number, entry in enumerate(session.facts.sheet.journal, 1):
         _, _, role, line = entry.split(maxsplit=3)
@@ -160,7 +160,7 @@ def need_finish(session: TapSession, sent: Sent) -> None:
 def note_tapped_too(session: TapSession, line: str) -> None:
     """Notes that a device has tapped a boat who has another finish in the sheet: her undo is asked about. Once is
     enough."""
-    last = next((one for one in reversed(session.register.sent.values())
+    last = next((one for one in session.register.all_reversed()
                  if "/" not in one.id.removesuffix("/too") and finisher_of(one.line) == finisher_of(line)), None)
     if last and (last.by != session.name or not last.answer.startswith("NO ")):
         session.register.refuse(session.sent_now(f"{session.tap.id}/too", line))

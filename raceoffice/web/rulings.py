@@ -64,7 +64,8 @@ def decide(room: Room, values: Mapping[str, Any], name: str) -> list[Values]:
     wasn't sent, and gets the same answer. `name` is the device's."""
     with room.lock:
         room.session("JURY").look()
-        return Decision(room, values, name).done()
+        with room.one_change():
+            return Decision(room, values, name).done()
 
 
 class Decision:

@@ -23,6 +23,7 @@ from raceoffice.remarks import remark
 from raceoffice.series import settings
 from raceoffice.series.folder import Folder
 from raceoffice.series.race_sheets import SHEETS, races_with_sheet
+from raceoffice.series.run_program import settings_in_force
 from raceoffice.session.facts import Facts
 from raceoffice.web import preview
 from raceoffice.web.kept_office import KeptOffice
@@ -55,15 +56,15 @@ def settings_kept(folder: Folder, office: KeptOffice) -> Values:
     if wrong := settings.problems(text):
         return {"wrong": remarks_of(wrong), "tag": tag_of(text)}
     values, is_open = settings.values_of(text), office.is_there()
-    kept, opened = settings.settings_of(values), preview.opened_settings(folder)
+    kept, opened = settings.settings_of(values), settings_in_force(folder)
     return {"wrong": [], "tag": tag_of(text), "is_open": is_open, "is_kept_here": office.keeping is not None,
             "settings": {key: (settings.DEFAULTS | values)[key] for key in GIVEN}, **times_rules(folder),
             "opened": rules_of(opened),
-            "waiting": waiting(folder, kept, opened) if is_open else []}
+            "waiting": waiting(folder, kept, opened)}
 
 
 def waiting(folder: Folder, kept: settings.Settings, opened: settings.Settings) -> list[str]:
-    """The settings of which the open office has others. While a race is on, the series may go on by the clock of another
+    """The settings that wait for an opening, since others are in force. While a race is on, the series may go on by the clock of another
     zone than the one with which the office was opened."""
     found = [key for key, value in rules_of(kept).items() if value != rules_of(opened)[key]]
     is_zone = kept.zone != folder.settings.zone or is_other_clock(folder, kept.zone or time_zones.like_computer())
@@ -113,7 +114,7 @@ def effect(folder: Folder, facts: Facts, values: Mapping[str, Any]) -> Values:
         return wrong
     zone = given.get("zone", before["zone"])
     need_no_race(folder, facts, zone != before["zone"] and is_other_clock(folder, zone))
-    wanted, opened = settings.settings_of(before | given), preview.opened_settings(folder)
+    wanted, opened = settings.settings_of(before | given), settings_in_force(folder)
     found: Values = {"wrong": [], "keys": [], "rules": wanted.in_words(), "settings": rules_of(wanted),
                      "at_once": [key for key in AT_ONCE if given.get(key, before[key]) != before[key]],
                      "at_opening": waiting(folder, wanted, opened)}

@@ -12,7 +12,7 @@ from raceoffice.errors import Trouble
 from raceoffice.program.journal import Series
 from raceoffice.remarks import remark
 from raceoffice.series.folder import Folder
-from raceoffice.series.run_program import replayed
+from raceoffice.series.run_program import options_in_force, replayed
 from raceoffice.web.race_start import clock_shown, note_zone, zone_kept
 from raceoffice.web.timed_taps import races_begun
 
@@ -37,5 +37,5 @@ def race_on(folder: Folder) -> int:
     """The first race that has a start or a finish, and doesn't count by the journal; 0 if there is none."""
     series = Series()
     with contextlib.suppress(Trouble):
-        series = Series.read(list(replayed(folder, folder.settings.options()).journal))
+        series = Series.read(list(replayed(folder, options_in_force(folder)).journal))
     return next((race for race in races_begun(folder) if not series.race(race).counts), 0)

@@ -2,6 +2,7 @@
 from __future__ import annotations
 
 import asyncio
+import contextlib
 import functools
 import os
 import re
@@ -34,6 +35,8 @@ SURE = 10.0
 # What an office says with the time already: `cup: 12:44:24 Closed.`
 HAS_TIME = re.compile(r"[^:]+: [0-9]{2}:[0-9]{2}:[0-9]{2} ")
 READY = "Ctrl-C closes the office."
+# What is added to the number of a signal that ends a command: so a shell has it.
+ENDED = 128
 
 
 @dataclass(frozen=True)
@@ -51,11 +54,17 @@ class Asked:
     own: str = ""
 
 
+class Stopped(Exception):
+    """The web was stopped while something was asked."""
+
+
 class Web:
     """The web of some series. What happens is said with the time, once it is open."""
 
     def __init__(self, asked: Asked) -> None:
         self.asked, self.is_ready, self.sure_until = asked, False, 0.0
+        # The first signal that stops the web; 0 as long as none has come.
+        self.stopped = 0
         folders = list(map(Folder, asked.folders))
         parent = os.path.dirname(os.path.abspath(folders[0].path)) if folders else os.getcwd()
         scheme = "https" if asked.certificate else "http"
@@ -83,11 +92,15 @@ class Web:
 
     def open_all(self) -> None:
         """Opens the office of each class, one after another: what is asked is asked here. A class that can't be served
-        keeps out no other."""
+        keeps out no other. Once the web is stopped no more is opened."""
         need_own_names([folder.name for folder in self.folders])
         for folder in self.folders:
+            if self.stopped:
+                return
             try:
-                self.office.add(folder).office.open(ask_here)
+                self.office.add(folder).office.open(self.is_yes)
+            except Stopped:
+                return
             except Trouble as why:
                 # The first folder's file of devices is that of whoever serves it. Nothing is open yet.
                 if len(self.folders) == 1 or isinstance(why, Served) and folder is self.folders[0]:
@@ -95,6 +108,16 @@ class Web:
                 self.office.leave_out(folder, why)
         if self.folders and not self.office.classes:
             raise Trouble("no class can be served")
+
+    def is_yes(self, asked: Question) -> bool:
+        """Whether somebody at the terminal says yes. Enter alone is no, and so is a terminal that has gone. Whoever stops the
+        web hasn't answered: an office may be opened after a no, too."""
+        is_meant = False
+        with contextlib.suppress(OSError):
+            is_meant = not self.stopped and question(asked.text, is_over=lambda: self.stopped > 0)
+        if self.stopped:
+            raise Stopped
+        return is_meant
 
     def links(self) -> dict[str, str]:
         """New links: of the roles that have none yet, and of those that were asked for."""
@@ -130,36 +153,53 @@ class Web:
 
     # Its life
 
-    async def serve(self) -> None:
+    async def serve(self) -> int:
+        """Serves until somebody stops it; the status."""
         secure = self.secure()
         loop, end = asyncio.get_running_loop(), asyncio.Event()
         loop.set_exception_handler(lambda _, context: None)
-        host = Host(self.routes.answer, self.routes.room_for, self.note, self.routes.name_of)
-        await host.start(self.own or "0.0.0.0", self.asked.port, secure)
-        await loop.run_in_executor(None, self.open_all)
+        # A program that is started from now on isn't left alone.
         for number in system.STOPS:
             loop.add_signal_handler(number, functools.partial(self.stop, end, number))
+        host = Host(self.routes.answer, self.routes.room_for, self.note, self.routes.name_of)
+        await host.start(self.own or "0.0.0.0", self.asked.port, secure)
+        try:
+            await loop.run_in_executor(None, self.open_all)
+            if not self.stopped:
+                await self.begin()
+            if not self.stopped:
+                self.say_open()
+                await end.wait()
+            if self.is_ready or self.office.keeps_any():
+                say_if_heard("\nClosing the office. Once more Ctrl-C doesn't wait for room on a full disk.")
+        finally:
+            await loop.run_in_executor(None, self.office.close)
+            host.close()
+        return 0 if self.is_ready else ENDED + self.stopped
+
+    async def begin(self) -> None:
+        """Begins with the board, and with the news of all pages."""
         self.office.news.start()
         self.office.board_news.start()
         threading.Thread(target=self.office.keep_board, daemon=True).start()
         await self.wait_for_board()
+
+    def say_open(self) -> None:
+        """Says where the office is, and shows it if that was asked for."""
         made = self.say_links()
         if self.asked.is_shown_here:
             # Another link would end the one that was just shown.
             webbrowser.open(made.get("SCORER") or self.routes.link("SCORER", False))
         say(READY)
         self.is_ready = True
-        await end.wait()
-        say_if_heard("\nClosing the office. Once more Ctrl-C doesn't wait for room on a full disk.")
-        await loop.run_in_executor(None, self.office.close)
-        host.close()
 
     def stop(self, end: asyncio.Event, number: int) -> None:
         """Ends the web, in order; a second signal hurries that. Ctrl-C is wanted twice while devices may write."""
         if end.is_set():
             self.office.hurry()
-        elif number == signal.SIGINT and not self.is_sure():
+        elif self.is_ready and number == signal.SIGINT and not self.is_sure():
             return
+        self.stopped = self.stopped or number
         end.set()
 
     def is_sure(self) -> bool:
@@ -176,18 +216,12 @@ class Web:
     async def wait_for_board(self) -> None:
         """Waits until the board has its first pages, for a while."""
         last = time.monotonic() + FIRST
-        while self.folders and not self.office.board.texts and time.monotonic() < last:
+        while self.folders and not (self.office.board.texts or self.stopped) and time.monotonic() < last:
             await asyncio.sleep(TICK)
 
     def run(self) -> int:
         system.pass_over_quit()
-        asyncio.run(self.serve())
-        return 0
-
-
-def ask_here(asked: Question) -> bool:
-    """Whether somebody at the terminal says yes. Enter alone is no."""
-    return question(asked.text)
+        return asyncio.run(self.serve())
 
 
 def serve(asked: Asked) -> int:

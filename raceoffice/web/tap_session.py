@@ -23,15 +23,15 @@ from raceoffice.session.seat import Done
 from raceoffice.session.session import Session
 from raceoffice.session.undo import line_if_moved, undo
 from raceoffice.terminal import Once
-from raceoffice.web.taps import Register, Sent, Tap, finisher_of, last_numbers, number_of
+from raceoffice.web.taps import DROPPED, KEPT_AGAIN, Register, Sent, Tap, finisher_of, last_numbers, number_of
 from raceoffice.wording import count
 
-# How the register has a place that was dropped, or kept again.
-DROPPED, KEPT_AGAIN = "NONE", "AGAIN"
 # How the register has a tap that was undone before it came, and an undo that had nothing to take back.
 UNDONE = "UNDO"
 # Seconds for which a tap waits, in all, for windows that write places: one may have been stopped. Others wait for the tap.
 PLACES = 2.0
+# Questions that a tap may answer by no: its boat is just ahead of the place then.
+MAY_DENY = ("finished-after", "place-ahead")
 # What isn't asked of somebody who taps Undo.
 MEANT_BY_UNDO = ("undo", "drop-place", "keep-place-again")
 
@@ -90,12 +90,16 @@ class TapSession(Session):
             self.role = own
         self.office().ask(f"ROLE {own}")
 
+    def need_alone(self) -> None:
+        # If the web dies, its phone may take the line for done.
+        self.at_the_line.need_alone()
+
     def look_at_journal(self) -> None:
         self.facts = self.see(self.office())
 
     def is_agreed(self, asked: Question) -> bool:
         """Whether just this was agreed to."""
-        if asked.kind == "place-is":
+        if asked.kind == "place-is" or asked.kind in MAY_DENY and asked in self.tap.denied:
             # Who taps a boat doesn't mean a place: that has taps of its own.
             return False
         if asked in self.tap.agreed or self.tap.undoes and asked.kind in MEANT_BY_UNDO:
@@ -114,7 +118,7 @@ class TapSession(Session):
         self.tap, self.name, self.lines, self.mark, self.answer, self.at = tap, name, 0, "", "", None
         self.is_of_several, self.later = tap.line.startswith("ABANDON "), ""
         self.twins.end = time.monotonic() + PLACES
-        self.places = Places(self.folder, name, self.twins.end)
+        self.places = Places(self.folder, name, self.twins.end, tap.id)
         self.said.clear()
 
     def is_tap_taken(self, line: str) -> bool:
@@ -172,14 +176,15 @@ class TapSession(Session):
         if first == "ABANDON":
             lines = sum(one.answer.startswith("OK ") for one in self.register.parts(sent.id))
             raise NotSent(remark("undo-abandon", race=rest[0], lines=count(lines, "line")))
-        if sent.place and not self.register.has_place(sent, self.places.read(self.facts.commands)):
+        number = number_of(sent, self.facts.sheet.journal)
+        is_place_gone = sent.place and not self.register.has_place(sent, self.places.read(self.facts.commands))
+        if is_place_gone or sent.entry and not number:
             raise NotSent(remark("undo-gone", line=sent.line))
-        unread = Unread(sent.mark, self.facts.race(rest[0]).number, frozenset()) if sent.mark else None
+        # An older package's register may not say into which place its boat was put.
+        mark = sent.mark or self.history.place_taken(number)
+        unread = Unread(mark, self.facts.race(rest[0]).number, frozenset()) if mark else None
         if not sent.entry:
             return Done(unread=unread, what="dropped" if rest[1:] == [DROPPED] else "kept")
-        number = number_of(sent, self.facts.sheet.journal)
-        if not number:
-            raise NotSent(remark("undo-gone", line=sent.line))
         return Done(self.facts.commands[number - 1], number, unread)
 
     # What is noted in the register before it is done
@@ -187,7 +192,7 @@ class TapSession(Session):
     def sent_now(self, id: str, line: str, mark: str = "") -> Sent:
         """What the register is to have of a line, as the journal is now. `mark` is the place that its boat was kept in."""
         journal = self.facts.sheet.journal
-        return Sent(id, self.role, line, self.moment_of(line, mark), self.name, len(journal), os.getpid(),
+        return Sent(id, self.role, line, self.moment_of(line, mark), self.name, len(journal), os.getpid(), mark=mark,
                     numbers=last_numbers(journal))
 
     def moment_of(self, line: str, mark: str) -> int:
@@ -239,16 +244,17 @@ class TapSession(Session):
         """The lines that put back what a tap took away."""
         return self.register.decisions.get(f"{id}/back", [])
 
-    def lines_taken(self) -> list[str]:
+    def lines_taken(self, sail: str) -> list[str]:
         """The lines of a tap of several that the journal has from an earlier try. The next line is numbered after
-        them."""
+        them. The answer is that to the last line of its own boat, if it is about one."""
         taken = []
         while part := self.register.sent.get(f"{self.tap.id}/{self.lines + 1}"):
             if not part.answer and (number := self.register.found(part, self.facts.sheet.journal)):
                 self.register.end(part.id, f"OK {number}")
             if not part.answer:
                 break
-            self.lines, self.answer = self.lines + 1, part.answer
+            self.lines += 1
+            self.answer = part.answer if sail in ("", part.line.split()[2]) else self.answer
             taken += [as_kept(part.line)] if part.entry else []
         return taken
 
@@ -271,12 +277,12 @@ class TapSession(Session):
     def drop(self, waiting: list[Unread], why: str) -> None:
         if len(waiting) == 1 and not self.tap.line.startswith("ABANDON "):
             self.mark = waiting[0].mark
-            self.note_begin(self.tap.id, f"{self.mark} {waiting[0].race} {DROPPED}")
+            self.note_begin(self.tap.id, f"{self.mark} {waiting[0].race} {DROPPED}", self.mark)
         super().drop(waiting, why)
 
     def keep_again(self, unread: Unread) -> None:
         if self.done and self.done.what == "dropped":
             # Otherwise a line follows, which has a note of its own.
             self.mark = unread.mark
-            self.note_begin(self.tap.id, f"{unread.mark} {unread.race} {KEPT_AGAIN}")
+            self.note_begin(self.tap.id, f"{unread.mark} {unread.race} {KEPT_AGAIN}", unread.mark)
         super().keep_again(unread)

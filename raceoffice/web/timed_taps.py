@@ -30,7 +30,7 @@ from raceoffice.web.race_start import by_clock_of_start, clock_of_race, clock_te
 from raceoffice.web.row_changes import cells_of, is_answered, is_made, note_tapped_too
 from raceoffice.web.states import Values, remarks_of
 from raceoffice.web.tap_session import TapSession
-from raceoffice.web.timed_undo import lines_back
+from raceoffice.web.timed_undo import lines_back, time_before
 
 # Seconds of a day.
 DAY = 86400
@@ -66,7 +66,7 @@ class TimedTap:
         self.is_given_back = bool(session.lines_back(session.tap.undoes)) and len(self.rest) == 2
         self.is_begun, self.is_written = session.is_begun, session.are_lines_noted
         # The lines that the journal has from an earlier try.
-        self.taken = session.lines_taken() if self.is_begun else []
+        self.taken = session.lines_taken(self.sail) if self.is_begun else []
 
     def is_taken(self) -> bool:
         """Writes what was tapped into the sheet, and sends the lines that differ; whether all were taken."""
@@ -225,7 +225,20 @@ class TimedTap:
         others = [line for line in found.lines if line not in own]
         # In a race that counts somebody may have said No to what the sheet has of others.
         is_alone = self.sail and (self.race.counts or self.session.role == "JURY")
-        return own + [line for line in others if not is_alone or line.split()[2] == self.sail]
+        left = own + [line for line in others if not is_alone or line.split()[2] == self.sail]
+        return self.as_before(left) if is_alone and self.session.tap.undoes else left
+
+    def as_before(self, lines: list[str]) -> list[str]:
+        """The lines of an undo in a race that counts: its boat gets the time that she had. To what her sheet makes now,
+        as after a new rating, somebody may have said No."""
+        timed = [line for line in lines if line.split()[0] in ("STRIKE", "TIME")]
+        had, has = time_before(self.session, self.race.number, self.sail), self.race.times.get(self.sail)
+        if had is None or self.is_begun and not timed:
+            # What somebody else has sent of her since an earlier try stays.
+            return lines
+        left = [f"STRIKE {self.race.number} {self.sail}"] if has not in (None, had) else []
+        again = [] if has == had else [f"TIME {self.race.number} {self.sail} {had}"]
+        return [line for line in lines if line not in timed] + left + again
 
     def say_left_out(self, sails: Sequence[str]) -> None:
         """Says whose rows are left out, until they are others once."""

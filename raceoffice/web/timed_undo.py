@@ -5,7 +5,7 @@ from __future__ import annotations
 from collections.abc import Mapping
 
 from raceoffice.errors import NotSent
-from raceoffice.program.journal import Race
+from raceoffice.program.journal import Race, Series
 from raceoffice.remarks import remark
 from raceoffice.session.question_words import question
 from raceoffice.session.undo import later_entry, lines_held
@@ -58,6 +58,14 @@ def timed_undo(session: TapSession, sent: Sent | None) -> str:
         return " ".join([*words[:3], words[4], words[3]])
     opposite = OPPOSITES.get(words[0], "")
     return f"{opposite} {words[1]} {words[2]}" if opposite else ""
+
+
+def time_before(session: TapSession, race: int, sail: str) -> int | None:
+    """The time that a boat had before the tap that is undone; None if she had none, or nothing of that tap is known."""
+    journal, sent = session.facts.sheet.journal, session.register.sent.get(session.tap.undoes)
+    lines = [sent, *session.register.parts(sent.id)] if sent else []
+    numbers = [number for part in lines if (number := number_of(part, journal))]
+    return Series.read(list(journal[:min(numbers) - 1])).race(race).times.get(sail) if numbers else None
 
 
 def need_own_finish(session: TapSession, sent: Sent) -> None:

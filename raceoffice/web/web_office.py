@@ -63,10 +63,12 @@ class WebOffice:
     follows: bool = False
     # The classes that can't be served, each with why.
     left_out: dict[str, LeftOut] = field(default_factory=dict)
+    # The classes that were taken away, each with the thread that closes it: an office may stay until its journal is safe.
+    taken_away: list[tuple[Class, threading.Thread]] = field(default_factory=list)
 
     def __post_init__(self) -> None:
         self.news, self.board_news = Hub(self.versions, AT_ONCE, self.gate.lets_in), PageNews(self.board, SOON)
-        self.gate.told_out = self.news.put_out
+        self.gate.told_out, self.gate.watching = self.news.put_out, self.news.names
         self.lock = threading.Lock()
 
     def versions(self) -> str:
@@ -84,16 +86,39 @@ class WebOffice:
             found = Class(room, office, Declarations(room, office, self.gate.holding))
             if not self.classes and not self.gate.path:
                 self.gate.move(folder.file(PRIVATE, DEVICES_FILE))
-            self.classes = {**self.classes, folder.name: found}
             self.to_come.discard(folder.name)
             self.left_out.pop(folder.name, None)
-            rooms = [one.room for one in self.classes.values()]
-            old, self.live_board = self.live_board, LiveBoard(rooms, self.board, self.board_news.wake, self.tell)
-            if old:
-                old.leave()
+            self.show({**self.classes, folder.name: found})
         threading.Thread(target=room.watch, daemon=True).start()
         self.news.wake()
         return found
+
+    def take_away(self, name: str) -> None:
+        """Closes a class whose register isn't its own any more, as when its folder was put back while it is served: from
+        then on it is left out. Until it is closed its taps wait."""
+        one = self.classes[name]
+
+        def close() -> None:
+            self.close_one(one)
+            self.leave_out(one.room.folder, Trouble(remark("taps-replaced", name=one.room.register.path)))
+            self.news.wake()
+        with self.lock:
+            if self.is_ending.is_set():
+                # It is being closed with all others.
+                return
+            thread = threading.Thread(target=close, daemon=True)
+            self.taken_away.append((one, thread))
+            self.to_come.add(name)
+            self.show({other: held for other, held in self.classes.items() if other != name})
+            thread.start()
+
+    def show(self, classes: dict[str, Class]) -> None:
+        """Serves these classes from now on, with their board."""
+        self.classes = classes
+        rooms = [one.room for one in classes.values()]
+        old, self.live_board = self.live_board, LiveBoard(rooms, self.board, self.board_news.wake, self.tell)
+        if old:
+            old.leave()
 
     def leave_out(self, folder: Folder, why: Trouble) -> None:
         """Goes on without a class. The scorer's page says why, and opens it once that is put right."""
@@ -116,6 +141,8 @@ class WebOffice:
             folder = next((one.room.folder.path for one in self.classes.values()), "")
             # A fault leaves a trace, and the next round comes all the same.
             with contextlib.suppress(Fault), guarded(folder):
+                for name in [name for name, one in self.classes.items() if one.room.register.is_another()]:
+                    self.take_away(name)
                 if self.live_board:
                     self.live_board.round()
                 self.gate.note_heard()
@@ -132,9 +159,13 @@ class WebOffice:
             self.tell(f"Beware: this computer has another address now, and the office is at {self.address}. Devices need new "
                       "links. See first which taps wait on their old pages: those stay there.")
 
+    def keeps_any(self) -> bool:
+        """Whether this process keeps an office."""
+        return any(one.office.keeping for one in self.classes.values())
+
     def writers(self) -> list[str]:
         """The devices that may still write to an office that this process keeps, with their roles."""
-        if not any(one.office.keeping for one in self.classes.values()):
+        if not self.keeps_any():
             return []
         return [f"{device.name} ({device.role.lower()}{taps_held(device.unsent)})" for device in self.gate.devices.values()
                 if device.heard > self.gate.clock.now() - RECENT or device.unsent and self.gate.lets_in(device.mark)]
@@ -146,11 +177,12 @@ class WebOffice:
 
     def close(self) -> None:
         """Closes the offices that this process keeps, side by side, and leaves the others."""
-        self.is_ending.set()
-        closing = [threading.Thread(target=self.close_one, args=(one,)) for one in self.classes.values()]
+        with self.lock:
+            self.is_ending.set()
+            closing = [threading.Thread(target=self.close_one, args=(one,)) for one in self.classes.values()]
         for thread in closing:
             thread.start()
-        for thread in closing:
+        for thread in [*closing, *(thread for _, thread in self.taken_away)]:
             thread.join()
         if self.live_board:
             self.live_board.leave()
@@ -163,7 +195,7 @@ class WebOffice:
 
     def hurry(self) -> None:
         """From now on nobody waits for room on a full disk."""
-        for one in self.classes.values():
+        for one in [*self.classes.values(), *(one for one, _ in self.taken_away)]:
             one.office.is_hurried = True
 
 

@@ -8,6 +8,7 @@ from typing import Any
 import browser
 from browser import Browser
 import helpers
+from forger import journal_of
 from test_export import Made
 from test_page import PALE, PARTLY, TEXTS
 from test_web_looks import NEEDS_NAME
@@ -52,6 +53,33 @@ UNHEADED = """[...document.querySelectorAll("table")].filter(part => part.checkV
           ...rows.filter(row => row.cells.length !== heads.length || row.querySelectorAll("th[scope=row]").length !== 1)
             .map(row => `row ${row.textContent.slice(0, 40)}`)];
 })"""
+# Sails that reach out of their cells, where the next column hides them or is hidden, and out of the chart.
+OUT_OF_CELL = """[...document.querySelectorAll("th.sail, svg text")].filter(part => {
+  const range = document.createRange(), around = (part.closest("svg") ?? part).getBoundingClientRect();
+  return [...part.childNodes].some(node => {
+    range.selectNodeContents(node);
+    const box = range.getBoundingClientRect();
+    return node.nodeType === 3 && box.width && (box.right > around.right + .5 || box.left < around.left - .5);
+  });
+}).map(part => part.textContent)"""
+# Texts that reach out of the card, the list or the note in which they are.
+OUT_OF_CARD = """[...document.querySelectorAll(":is(.list li, .classes, .reason, header) *, .reason")].flatMap(part => {
+  const range = document.createRange(), around = part.closest(".list li, .classes, .reason, header").getBoundingClientRect();
+  return [...part.childNodes].filter(node => {
+    range.selectNodeContents(node);
+    return node.nodeType === 3 && [...range.getClientRects()].some(box => box.width && box.right > around.right + .5);
+  }).map(node => node.data.slice(0, 20));
+})"""
+# Net points on which the mark of their tie lies.
+MARKED = """[...document.querySelectorAll("td.net")].filter(cell => {
+  const mark = cell.querySelector("a"), range = document.createRange();
+  if (!mark) return false;
+  range.setStart(cell, 0);
+  range.setEndBefore(mark);
+  const right = range.getBoundingClientRect().right;
+  range.selectNodeContents(mark);
+  return range.getBoundingClientRect().left < right - 2.5;
+}).map(cell => cell.textContent)"""
 # Headings that are two levels or more below the one before them
 OUT_OF_ORDER = """[...document.querySelectorAll("h1, h2, h3, h4, h5, h6")].filter(part => part.checkVisibility())
   .filter((part, at, all) => part.tagName[1] > (at ? +all[at - 1].tagName[1] + 1 : 1)).map(part => part.textContent)"""
@@ -116,6 +144,68 @@ class BoardLooks(Made):
                     self.assertEqual(tab.run(f"{CUT}({14 * letters / USUAL})"), [])
                     self.assertEqual(tab.run(PARTLY), [])
                     self.assertEqual(tab.run(COVERED), [])
+
+    def test_long_sails(self) -> None:
+        """A sail of as many signs as there may be is whole in the tables and in the chart: cut, it reads as another's."""
+        sails = ["AUS-12345678", "GBR 21543299", "W W W W W W W W W W W W", "ITA 20 15 88 7", "MMMMMMMMMMMM", "G B R 1"]
+        folder = self.make("long", "\n".join(["Sail,Helm", *(f"{sail},Bartholomew Featherstonehaugh" for sail in sails), ""]))
+        plain = [sail.replace(" ", "") for sail in sails]
+        lines = [line for race in range(1, 9) for line in (f"FINISH {race} {plain[0]}", f"TIE {race} {plain[1]} {plain[0]}",
+                                                      *(f"FINISH {race} {sail}" for sail in plain[2:]), f"SCORE {race}")]
+        self.write(journal_of(folder, *lines), "long", "journal.txt")
+        said, status = helpers.run("board", "long", "--page", "out", "--once", cwd=self.here)
+        self.assertEqual(status, 0, said)
+        self.results("long", "--html", os.path.join("out", "all.html"))
+        tab = self.browser(USUAL)
+        for name in ("index", "all", "long/race-1"):
+            for width in (320, 390, 768, 1280):
+                tab.size(width)
+                tab.open(f"file://{self.here}/out/{name}.html")
+                tab.run("document.querySelectorAll('details').forEach(one => one.open = true)")
+                with self.subTest(page=name, width=width):
+                    self.assertEqual(tab.run(OUT_OF_CELL), [])
+                    self.assertEqual(tab.run(PARTLY), [])
+
+    def test_long_words(self) -> None:
+        """Words that no space parts are broken: no name reaches out of its card, of the way to other classes, of a note or of
+        the line that says whose office doesn't answer."""
+        for name, state in ("one", "provisional"), ("two", "final"):
+            word = name + "W" * 70
+            folder = self.make(name, f"Sail,Helm,Boat,Club\nGBR 112,{word},{word},{word}\nGBR 7,{word},,\n", title=word, club=word,
+                               reason=word, state=state, **{"class": word})
+            self.write(journal_of(folder, "FINISH 1 GBR112", "TIE 1 GBR7 GBR112", "SCORE 1"), name, "journal.txt")
+        said, status = helpers.run("board", "one", "two", "--page", "out", "--once", cwd=self.here)
+        self.assertEqual(status, 0, said)
+        self.results("one", "two", "--html", os.path.join("out", "all.html"))
+        with open(os.path.join(self.here, "out", "index.html"), encoding="utf-8") as file:
+            self.write(file.read().replace('data-office="once"', 'data-office="away:0,1"', 1), "out", "away.html")
+        tab = self.browser(USUAL)
+        for page in ("index", "all", "one/index", "one/race-1", "away"):
+            for width in (320, 768, 1280):
+                tab.size(width)
+                tab.open(f"file://{self.here}/out/{page}.html")
+                with self.subTest(page=page, width=width):
+                    self.assertEqual(tab.run("document.getElementById('alarm').textContent.includes('W'.repeat(70))"), page == "away")
+                    self.assertEqual(tab.run(OUT_OF_CARD), [])
+                    self.assertLessEqual(tab.run("document.documentElement.scrollWidth"), width)
+
+    def test_many_ties(self) -> None:
+        """No mark of a tie lies on the net points, also if there are more ties than letters."""
+        sails = [f"GBR{number}" for number in range(1, 57)]
+        folder = self.make("ties", "\n".join(["Sail", *sails, ""]), exclude="none")
+        turned = [sail for one, other in zip(sails[::2], sails[1::2]) for sail in (other, one)]
+        lines = [line for race, order in ((1, sails), (2, turned))
+                 for line in (*(f"FINISH {race} {sail}" for sail in order), f"SCORE {race}")]
+        self.write(journal_of(folder, *lines), "ties", "journal.txt")
+        self.results("ties", "--html", "ties.html")
+        tab = self.browser(USUAL)
+        tab.open(f"file://{self.here}/ties.html")
+        self.assertEqual(tab.run("document.querySelectorAll('td.net a').length"), 56)
+        for width in (390, 768, 1280):
+            tab.size(width)
+            self.assertEqual(tab.run(MARKED), [], width)
+        tab.ask("Emulation.setEmulatedMedia", media="print")
+        self.assertEqual(tab.run(MARKED), [])
 
     def test_heard(self) -> None:
         """A screen reader has a name for all that can be used, each table has headings, and headings are in order; each

@@ -209,7 +209,7 @@ class Results(Made):
                 file.write(right)
             done = subprocess.run([helpers.PROGRAM, "replay", "--exclude", "2,4", "--journal", path],
                                   input="", capture_output=True, text=True)
-            self.assertEqual(found[race - 1], Standing.read(done.stdout.splitlines()))
+            self.assertEqual(found[race - 1], Standing.read(done.stdout.splitlines()).ranks())
 
     def test_full_journal(self) -> None:
         """A journal without room for more lines has results, and no chart."""

@@ -4,6 +4,7 @@ from __future__ import annotations
 import collections
 import random
 import subprocess
+import time
 import unittest
 
 import helpers
@@ -124,6 +125,16 @@ class Records(unittest.TestCase):
         journal, _ = played(["ENTER A", "ENTER B", "ENTER C", "TIME 1 A 90", "TIME 1 B 80",
                              "TIME 1 C 90", "STRIKE 1 A", "TIME 1 A 70"], "--handicap")
         self.assertEqual(journals.Series.read(journal).races[1].order, [["A"], ["B"], ["C"]])
+
+    def test_timed_again(self) -> None:
+        """A journal in which one boat of 500 is timed again and again takes no minutes to read."""
+        lines = [f"ENTER B{at}" for at in range(500)] + [f"TIME 1 B{at} {1000 + at}" for at in range(500)]
+        for at in range(1000):
+            lines += ["STRIKE 1 B0", f"TIME 1 B0 {2000 + at}"]
+        start = time.process_time()
+        race = journals.Series.read([f"1 1 SCORER {line}" for line in lines]).races[1]
+        self.assertLess(time.process_time() - start, 3)
+        self.assertEqual(race.order[-1], ["B0"])
 
     def test_changes(self) -> None:
         lines = ["ENTER A", "ENTER B", "FINISH 1 A", "FINISH 1 B", "SCORE 1"]

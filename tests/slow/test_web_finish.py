@@ -301,6 +301,27 @@ class Finish(WebTrial):
         ann.run("window.given = null; ask(); press(finger('dialog [data-value=drop]', 0))")
         ann.until("window.given === 'drop'")
 
+    def test_ahead_of_a_place(self) -> None:
+        """A boat that was ahead of a place is struck and tapped again, and didn't finish after it: a button puts her ahead of
+        it, and the list shows her there."""
+        ann = self.phone()
+        for sail in ("NED12", "GBR7"):
+            ann.tap(sail)
+        ann.click("#unread")
+        self.settle(ann)
+        ann.run("[...document.querySelectorAll('#list li')].find(row => row.textContent.includes('GBR 7')).querySelector('button').click()")
+        ann.choose("strike")
+        self.settle(ann)
+        ann.tap("GBR7")
+        ann.until("!!document.querySelector('dialog[open]')")
+        self.assertIn("was ahead of ?1 until she was struck", ann.text("dialog"))
+        ann.press("No: ahead of ?1")
+        self.settle(ann)
+        self.assertEqual(self.journal(), [*finishes("NED12", "GBR7"), "FINISH STRIKE 1 GBR7", *finishes("GBR7")])
+        ann.until("document.querySelectorAll('#list li').length === 3")
+        self.assertEqual(ann.texts(ROWS), ["NED 12", "GBR 7", "?1"])
+        self.need_no_faults()
+
     def test_a_first_visit(self) -> None:
         """A phone with an empty cache loads the finish page, in the language with the longest words, in 40 KB."""
         ann = self.phone(language="de")
@@ -438,6 +459,33 @@ class Two(WebTrial):
             ann.until(f"document.querySelectorAll('{left}').length === {count}")
         self.need_no_faults()
 
+    def test_the_office_of_a_class_that_is_not_sailed(self) -> None:
+        """The office of a class is closed: a phone that doesn't record it, and holds none of its taps, says nothing of that.
+        Any other says so, without the sign of a link that is in order."""
+        ann = self.phone_of_both()
+        bea = self.device("scorer", "Bea’s laptop")
+        bea.click("#tab-office")
+        bea.click("section[data-key=fleet] button.bad")
+        bea.choose("yes")
+        bea.until("!!document.querySelector('section[data-key=fleet] button.main')")
+
+        def need(words: str, look: str) -> None:
+            sign = "document.querySelector('#link')"
+            ann.until(f"{sign}.textContent === '{words}' && {sign}.className.trim() === '{look}'")
+
+        need("Office away", "link away")
+        ann.run("document.querySelectorAll('.race')[1].click()")
+        ann.choose("none")
+        need("Live", "link")
+        ann.tap("GBR101", "cup")
+        self.settle(ann)
+        kept = {"id": "1" * 32, "line": "FINISH 1 NED80", "state": "unsent", "at": 1_795_870_800_000, "class": "fleet", "agreed": []}
+        ann.run(f"localStorage.setItem('tap:000000000000001.{'1' * 32}', {json.dumps(json.dumps(kept))})")
+        ann.run("window.onbeforeunload = null")
+        ann.reload()
+        ann.until("document.querySelector('#link').className.trim() === 'link away'")
+        self.need_no_faults()
+
     def test_one_page_for_both(self) -> None:
         ann = self.phone_of_both()
         ann.tap("GBR101")
@@ -499,7 +547,8 @@ class Timed(WebTrial):
         self.need_no_faults()
 
     def test_a_boat_without_a_rating(self) -> None:
-        """A tick is for what is in the journal. A boat without a rating is in the sheet only, and the scorer's page says so."""
+        """A tick is for what is in the journal. A boat without a rating is in the sheet only: the scorer's page says so, and
+        why."""
         self.write(self.classes["cup"].replace("1.250", ""), "cup", "entries.csv")
         ann, sue = self.started(), self.device("scorer", "Sue")
         for sail in ("NED12", "GBR101"):
@@ -521,7 +570,8 @@ class Timed(WebTrial):
         sue.until("document.querySelector('dialog[open]')?.textContent.includes('DEN 5')")
         sue.choose("yes")
         sue.until("document.querySelector('h3 + .missing').textContent.includes('DEN 5')")
-        self.assertEqual(sue.text("#in-sheet").split("\n"), ["In the sheet, and not in the journal yet:", "", "NED 12 Windhover"])
+        self.assertRegex(sue.text("#in-sheet"), r"^In the sheet, and not in the journal yet:\n\n"
+                                                r"entries\.csv, row 4: NED\s12 has no rating\.\n\nNED 12 Windhover$")
         self.assertEqual(sue.texts("h3 + .missing button"), ["GBR 7 Sea Pink", "DEN 5"])
         self.need_no_faults()
 

@@ -198,6 +198,42 @@ class Trial(Served):
         self.restore(before)
         return steps
 
+    def each_undone(self, tap: Sent, victims: Sequence[str] = ("web", "program"), is_at_once: bool = True) -> None:
+        """Kills before each step of a tap that is undone then: sent again before that, and if `is_at_once` also not."""
+        undone = Sent(tap.role, tap.rest, tap_of(9, "UNDO", undoes=(tap.values or {})["id"]))
+        self.settle()
+        before = self.files()
+        _, steps = self.asked([tap])
+        answers, _ = self.asked([undone])
+        self.assertEqual([status for status, _ in answers], [200], answers)
+        after = self.files()
+        self.assertEqual(self.race_shown(after), self.race_shown(before))
+        for victim in victims:
+            for stop, step in enumerate(steps, 1):
+                for some in [[tap, undone], [undone, tap]][:1 + is_at_once]:
+                    if victim == "web" or step in ("sendall", "recv"):
+                        with self.subTest(victim=victim, stop=stop, step=step, undone_first=some[0] is undone):
+                            self.trial_undone(tap, some, stop, victim, before)
+        self.restore(before)
+
+    def trial_undone(self, tap: Sent, some: Sequence[Sent], stop: int, victim: str, before: Held) -> None:
+        """Kills before this step of a tap, and sends what is left: nothing is left of the tap."""
+        self.restore(before)
+        program = self.serving()
+        self.asked([tap], stop, victim)
+        if victim == "program":
+            program.wait()
+        else:
+            self.settle()
+        answers, _ = self.asked(some)
+        self.assertEqual([status for status, _ in answers], [200] * len(some), answers)
+        self.assertEqual(self.race_shown(self.files()), self.race_shown(before))
+
+    def race_shown(self, held: Held) -> object:
+        """What a page shows of race 1 by these files."""
+        race = Series.read(held["journal.txt"].decode().split("\n")[1:-1]).race(1)
+        return race.order, race.times, race.codes, race.penalties, [held.get(name) for name in WHOLE]
+
     def trial(self, some: Sequence[Sent], stop: int, victim: str, before: Held, after: Held,
               wanted: Sequence[str] = ()) -> None:
         """Kills before this step, and looks at what is left, and at what the next try makes of it. `wanted` are the
@@ -422,6 +458,23 @@ class Time(Prepared):
         self.asked([undone])
         self.assertIn(b"GBR7,14:00:00,15:05:00,", self.files()[sheet])
         self.assertEqual(lines_of(self.files())[-2:], ["FINISH STRIKE 1 GBR7", "FINISH TIME 1 GBR7 3510"])
+
+    def test_undone(self) -> None:
+        """A tap that was killed at each step comes again, and is undone: the sheet and the journal are what they were."""
+        self.serving()
+        self.typed("FINISH TIME 1 GBR101 3600", "FINISH TIME 1 GBR7 3510")
+        for number, line in enumerate(("MARK 1 GBR7 RET", "STRIKE 1 GBR101", "FINISH 1 GBR7 15:10:00 15:05:00"), 1):
+            self.each_undone(Sent("FINISH", ("line", "cup"), tap_of(number, line)), victims=("web",), is_at_once=False)
+
+    def test_others_line(self) -> None:
+        """A boat whose finish was before her start is struck, for whom no line has to be sent. So the other one's time is
+        known, 3,900 s x 0.900, and that line is no answer to the tap, also after a kill."""
+        self.write("Sail,Start,Finish,Code\nGBR101,14:00:00,13:59:00,\nGBR7,14:00:00,15:05:00,\n", "cup", "times", "race-1.csv")
+        self.serving()
+        struck = Sent("FINISH", ("line", "cup"), tap_of(1, "STRIKE 1 GBR101"))
+        self.each_step(struck, wanted=("times/race-1.csv", "journal.txt"))
+        self.assertEqual(outcomes_of(self.asked([struck])[0]), ["noted"])
+        self.assertEqual(lines_of(self.files())[-1], "FINISH TIME 1 GBR7 3510")
 
     def test_by_hand(self) -> None:
         """A finish is typed in place of another: 3,900 s x 0.900 before, and 4,200 s x 0.900 then; a code for a boat that

@@ -49,6 +49,38 @@ class SettingsPage(WebTrial):
         scorer.until("[...document.querySelectorAll('.standing td.net')].some(one => one.textContent === '4.0')")
         self.need_no_faults()
 
+    def test_rules_that_wait(self) -> None:
+        """Rules that are saved wait until somebody says Yes to them: a No opens the office with those in force. What is open
+        before the results are final names them."""
+        scorer = self.device("scorer", "Bea’s laptop")
+        scorer.click("#tab-settings")
+        scorer.until("!!document.querySelector('#save') && !document.querySelector('#save').disabled")
+        scorer.click("#absent-a53")
+        scorer.until("!document.querySelector('#save').disabled")
+        scorer.click("#save")
+        scorer.until("!!document.querySelector('#waiting')")
+        scorer.click("#tab-results")
+        scorer.until("document.querySelector('.open-points')?.textContent.includes('not in force')")
+        self.assertIn("A5.2 or A5.3", scorer.text(".open-points"))
+        scorer.click("#tab-office")
+        scorer.click("section[data-key=cup] button.bad")
+        scorer.choose("yes")
+        for answer in ("", "no"):
+            scorer.until("!!document.querySelector('section[data-key=cup] button.main')")
+            scorer.click("section[data-key=cup] button.main")
+            scorer.until("!!document.querySelector('dialog[open] button[data-value=no]')")
+            self.assertIn("No opens it with the old ones", scorer.text("dialog[open]"))
+            if answer:
+                scorer.choose(answer)
+            else:
+                scorer.run("document.querySelector('dialog[open]').dispatchEvent(new Event('cancel', {cancelable: true})); 0")
+                scorer.until("!document.querySelector('dialog[open]')")
+        scorer.until("!!document.querySelector('section[data-key=cup] .chip.good')")
+        scorer.click("#tab-settings")
+        scorer.until("!!document.querySelector('#waiting')")
+        self.assertIn("RRS A5.2", scorer.text("#waiting"))
+        self.need_no_faults()
+
 
 class EntriesPage(WebTrial):
     """A boat's names are put right, and a boat that was entered by mistake is taken out."""

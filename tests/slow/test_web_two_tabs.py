@@ -95,6 +95,8 @@ class Let(WebTrial):
         self.comes(two, self.address(self.links["finish"]))
         one.tap("GBR7")
         self.settle(one)
+        # A tab that hasn't seen the other's finish would be asked.
+        two.until(f"{ROWS} === 2")
         two.tap("NED12")
         self.settle(two)
         self.assertEqual(self.journal(), finishes("GBR101", "GBR7", "NED12"))

@@ -76,6 +76,7 @@ class TwoTimed(TimedTrial):
         """A finger that presses again while a part of the page is still fetched opens one window."""
         phone = self.phone()
         self.race(phone, "cup")
+        phone.until("!!document.querySelector('#start')")
         phone.run("[1, 2, 3].forEach(() => document.querySelector('#start').click())")
         phone.until(f"{TITLE} === 'Folkboats: Start of race 1'")
         self.assertEqual(phone.run("document.querySelectorAll('dialog').length"), 1)
@@ -91,13 +92,14 @@ class TwoTimed(TimedTrial):
         self.race(phone, "cup", "none")
         self.race(phone, "lev")
         phone.tap("GBR101", "lev")
-        self.assertFalse(phone.run("document.querySelector('#level').disabled"))
+        phone.until("!document.querySelector('#level').disabled")
         phone.click("#unread")
         self.settle(phone)
         self.race(phone, "cup")
         self.race(phone, "cup", "none")
         phone.until("document.querySelector('#level').disabled")
         self.race(phone, "cup")
+        phone.until("document.querySelectorAll('#list li.unread').length === 2")
         self.assertEqual(sorted(phone.texts("#list li.unread .name")),
                          ["Dragons · sail not read: tap once known", "Folkboats · sail not read: tap once known"])
         phone.click("#list li.unread[data-key^='lev'] button")

@@ -1,5 +1,6 @@
 //! Texts that a program reads whole.
-ghost use Rattle.std.specs.Prelude.{◌≡◌, ◌≤◌, IfOk, IfSome, length};
+ghost use Rattle.std.specs.Prelude.{◌≤◌, IfOk, length};
+ghost use Rattle.regatta_streams.specs.Texts.{IsAllOf};
 
 use crate::stop::Stop;
 use regatta_streams::{Foreign, Source, read_text};
@@ -17,9 +18,7 @@ pub const TEXT_LIMIT: u32 = 1_048_576;
 /// `TooLong` if a byte past the limit comes, `Device` if a read fails, `NoMemory` if an allocation
 /// fails.
 pub fn text_of<R: Source>(alloc: Global, input: &mut R) -> Result<Vec<u8>, Stop>
-    ensures text { IfOk result (λ text.
-        IfSome (R.remaining input.old) (λ given. text.items ≡ given)) }
-    ensures short { IfOk result (λ text. length text.items ≤ TEXT_LIMIT) }
+    ensures { IfOk result (λ text. IsAllOf (R.remaining input.old) TEXT_LIMIT text.items) }
 {
     match read_text(alloc, input, TEXT_LIMIT) {
         Ok(text) => Ok(text),

@@ -12,18 +12,15 @@ use Rattle.regatta_scores.specs.Journal.{Journal, same_sail, entered}
 use Rattle.regatta_scores.specs.Standing.{standing}
 use Rattle.regatta_board.specs.Refusals.{limits, refusal, is_lawful}
 use Rattle.regatta_board.specs.Answers.{boat_named, rank_of, IsNumberOf}
-use Rattle.regatta_board.specs.declared.kept.Revision.{Revision}
-use Rattle.regatta_board.specs.declared.scoring.NewScores.{NewScores}
-use Rattle.regatta_board.specs.Revisions.{revised}
+use Rattle.regatta_board.specs.declared.scoring.update.Update.{Update}
 use Rattle.regatta_board.specs.Scoring.{Scoring, IsScoring, touched_at}
-use Rattle.regatta_board.specs.Table.{Kept, IsKept, table}
+use Rattle.regatta_board.specs.Table.{table}
 use Rattle.regatta_board.specs.KeptJournal.{number, kept_of}
 use Rattle.regatta_board.specs.BoardFacts.{BoardValue, StagedValue, IsStaged}
-use Rattle.regatta_board.specs.LedgerFacts.{IsRevision}
 use Rattle.regatta_scores.proofs.Apart.{entered_more, same_entered}
 use Rattle.regatta_board.proofs.Accepted.{MayAct, MayStep, may_step}
 use Rattle.regatta_board.proofs.Found.{at_position, found, found_more}
-use Rattle.regatta_board.proofs.Lawful.{lawful_more, accepted}
+use Rattle.regatta_board.proofs.Lawful.{accepted}
 use Rattle.regatta_board.proofs.LawfulJournals.{lawful_orderly, lawful_kept}
 use Rattle.regatta_board.proofs.Numbers.{is_same}
 use Rattle.regatta_board.proofs.RowFound.{rank_found}
@@ -59,34 +56,19 @@ lines_few rules journal lawful scoring is =
     omega (arith, lines, kept.few)
 
 -- a command that may be committed was prepared on the board as it is
-module _ {entry : EntryParts} {place : ℕ} {revision : Revision} {scores : NewScores} {boat : Option ℕ}
-  where
-    pub staged_on : {staged value : StagedValue} {held board : BoardValue} → staged ≡ value
-        → value.board ≡ board → held ≡ board
-        → IsStaged staged.board entry place revision scores boat
-        → IsStaged held entry place revision scores boat
-    staged_on staged_is of held_is =
-        subst (λ (v : BoardValue). IsStaged v entry place revision scores boat)
-        (ap (λ (v : StagedValue). v.board) staged_is ∙ of ∙ sym held_is)
+module _ {entry : EntryParts} {place : ℕ} {update : Update} {boat : Option ℕ} where
+  pub staged_on : {staged value : StagedValue} {held board : BoardValue} → staged ≡ value
+      → value.board ≡ board → held ≡ board → IsStaged staged.board entry place update boat
+      → IsStaged held entry place update boat
+  staged_on staged_is of held_is =
+      subst (λ (v : BoardValue). IsStaged v entry place update boat)
+      (ap (λ (v : StagedValue). v.board) staged_is ∙ of ∙ sym held_is)
 
 -- the table computed from what is kept of a lawful journal is its standing
 pub lawful_table : (rules : RulesParts) (journal : Journal) → is_lawful limits rules journal ≡ true
     → table rules (kept_of rules journal) ≡ standing rules journal
 lawful_table rules journal lawful =
     table_is rules journal (lawful_orderly rules journal lawful)
-
-module _ (rules : RulesParts) (entries : Journal) (lawful : is_lawful limits rules entries ≡ true)
-    (e : EntryParts) (none : refusal limits rules entries e ≡ None) (kept : Kept)
-    (keeps : kept ≡ kept_of rules entries) (revision : Revision)
-    (revises : IsRevision rules entries e revision) where
-  next_lawful : is_lawful limits rules (entries ++ e ∷ []) ≡ true
-  next_lawful = lawful_more rules entries e lawful none
-
-  pub next_is : revised kept revision ≡ kept_of rules (entries ++ e ∷ [])
-  next_is = ap (λ k. revised k revision) keeps ∙ revises
-
-  pub next_kept : IsKept (revised kept revision)
-  next_kept = subst IsKept (sym next_is) (lawful_kept rules (entries ++ e ∷ []) next_lawful)
 
 -- the number of the boat that an accepted command names is hers afterwards: a boat that it enters
 -- gets the number of boats

@@ -60,17 +60,20 @@ columns_few f races found is few = omega (arith, ap length is, length-map races 
 -- one more race adds to the count if it counts
 pub counted_more : (counts : List Bool) (i start old new : ℕ)
     → old ≡ start + length (filter (λ race. get_or counts (race - 1) false) (range_with_len 1 i))
-    → new ≡ old + cond (get_or counts ((i + 1) - 1) false) 1 0
+    → new ≡ old + cond (get_or counts i false) 1 0
     → new ≡ start
     + length (filter (λ race. get_or counts (race - 1) false) (range_with_len 1 (i + 1)))
 counted_more counts i start old new e f =
+    let here : (i + 1) - 1 ≡ i = omega arith in
     omega (
       arith,
       e,
       f,
       ap length (races_step counts i)
           ∙ more_long (get_or counts ((i + 1) - 1) false)
-          (filter (λ race. get_or counts (race - 1) false) (range_with_len 1 i)),
+          (filter (λ race. get_or counts (race - 1) false) (range_with_len 1 i))
+          ∙ ap (λ k. length (filter (λ race. get_or counts (race - 1) false) (range_with_len 1 i))
+          + cond (get_or counts k false) 1 0) here,
     )
   where
     more_long : (b : Bool) (xs : List ℕ)

@@ -11,8 +11,8 @@ use Rattle.regatta_scores.proofs.Apart.{one_act, same_acts}
 use Rattle.regatta_scores.proofs.OneMore.{counts_by, counts_after, counts_step}
 use Rattle.regatta_board.specs.Answers.{most_rescored_by}
 use Rattle.regatta_board.specs.KeptJournal.{kept_of, IsOrderly}
-use Rattle.regatta_board.specs.Scoring.{most_remade_by}
 use Rattle.regatta_board.specs.Step.{step_of}
+use Rattle.regatta_board.specs.Update.{most_remade}
 use Rattle.regatta_board.proofs.Accepted.{NamesRace}
 use Rattle.regatta_board.proofs.KeptFacts.{counts_are}
 use Rattle.regatta_board.proofs.TableOf.{races_are}
@@ -26,7 +26,7 @@ module _ (rules : RulesParts) (journal : Journal) (orderly : IsOrderly rules jou
       ap counts_by (one_act journal entry race act is) ∙ counts_step (acts journal race) act
 
   pub named_few : (e : Effect) → effect entry.command ≡ e → NamesRace e
-      → most_remade_by (kept_of rules journal) (step_of (kept_of rules journal) e)
+      → most_remade (kept_of rules journal) (step_of (kept_of rules journal) e)
       ≡ most_rescored_by (journal ++ entry ∷ []) e
   named_few (Enters sail) is named =
       ap length (races_are rules journal orderly)

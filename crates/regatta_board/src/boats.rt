@@ -60,6 +60,14 @@ impl Boats {
         *self.numbers.get_index(number).unwrap().0
     }
 
+    /// The number of the next boat.
+    pub(crate) fn next_number(&self) -> u16
+        requires { length self.now < limits.boats }
+        ensures { result ≡ length self.now }
+    {
+        self.len() as u16
+    }
+
     /// Copies the list and appends a boat.
     pub(crate) fn with(&self, boat: Sail) -> Result<Boats, AllocError>
         requires few { length self.now < limits.boats }
@@ -67,7 +75,7 @@ impl Boats {
         ensures { IfOk result (λ boats. boats ≡ self.now ++ boat ∷ []) }
     {
         let mut numbers = self.numbers.clone()?;
-        numbers.insert(boat, self.len() as u16)?;
+        numbers.insert(boat, self.next_number())?;
         Ok(Boats { numbers })
     }
 }

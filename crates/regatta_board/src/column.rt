@@ -1,18 +1,18 @@
 //! Columns: the scores of all boats in a race that counts, before averages.
-ghost use Rattle.std.specs.Prelude.{◌≡◌, ◌+◌, ◌-◌, ◌<◌, ◌≤◌, ◌^◌, [], false, length};
-ghost use Rattle.std.specs.Prelude.{map, slice_index_or, IfOk, OnOk, if◌then◌else◌};
+ghost use Rattle.std.specs.Prelude.{◌≡◌, ◌+◌, ◌-◌, ◌<◌, ◌≤◌, ◌^◌, [], length};
+ghost use Rattle.std.specs.Prelude.{slice_index_or, IfOk, OnOk, if◌then◌else◌};
 ghost use Rattle.std.specs.Option.{option_copied};
-ghost use Rattle.regatta_terms.specs.Entries.{IsRace};
+ghost use Rattle.regatta_terms.specs.declared.limits.TheConstants.{MAX_RACES};
 ghost use Rattle.regatta_scores.specs.RaceScores.{no_score};
-ghost use Rattle.regatta_board.specs.Scoring.{AreColumns, column_at, once_if_counted, with_column};
-ghost use Rattle.regatta_board.specs.Table.{IsKept, column as column_of};
-ghost use Rattle.regatta_board.specs.Table.{races as races_of};
+ghost use Rattle.regatta_board.specs.Scoring.{AreColumns, columns_in, with_column};
+ghost use Rattle.regatta_board.specs.Table.{column as column_of, races as races_of};
 
-use crate::kept::Draft;
+use crate::kept::index_of;
+use crate::sheets::Sheets;
 use regatta_scores::{
-    Items, PerRace, RaceColumn, RaceScore, RaceScores, RaceSheet, Work, race_scores,
+    Items, PerRace, RACES, RaceColumn, RaceScore, RaceScores, RaceSheet, Work, race_scores,
 };
-use regatta_terms::{MAX_RACES, RaceNo, Rules};
+use regatta_terms::{RaceNo, Rules};
 use std::alloc::{AllocError, Global};
 use std::marker::Model;
 
@@ -71,74 +71,54 @@ pub(crate) fn made_column(
     Ok(Column { scores })
 }
 
-/// The new column of one race. It is empty if the race doesn't count.
-#[derive(Drop)]
-pub(crate) struct NewColumn {
-    pub race: RaceNo,
-    pub column: Column,
-}
-
-/// The column of a race, or an empty one if the race doesn't count.
-fn column_if_scored(
+/// The column of a race with this sheet, or an empty one if the race doesn't count.
+pub(crate) fn column_if(
     alloc: Global,
-    draft: &Draft,
-    race: u8,
+    counts: bool,
+    sheet: &RaceSheet,
     rules: &Rules,
     work: &mut Work,
 ) -> Result<Column, AllocError>
-    requires kept { IsKept draft.now }
-    requires race { IsRace race }
     requires work { work.old + 1 < 2 ^ 32 }
-    ensures value { IfOk result (λ column. column ≡ column_at rules.now draft.now (race - 1)) }
-    ensures counted { OnOk result (work.new ≡ work.old
-        + (if slice_index_or draft.now.counts (race - 1) false then 1 else 0)) }
-    ensures few { OnOk result (work.new ≤ work.old + 1) }
+    ensures value { IfOk result (λ column.
+        column ≡ (if counts then column_of rules.now sheet.now else [])) }
+    ensures counted { OnOk result (work.new ≡ work.old + (if counts then 1 else 0)) }
 {
-    let race = RaceNo::new(race).unwrap();
-    if !draft.is_scored(race) {
+    if !counts {
         return Ok(Column::empty(alloc));
     }
-    let column = made_column(alloc, draft.sheet(race), rules, work)?;
+    let column = made_column(alloc, sheet, rules, work)?;
     Ok(column)
 }
 
 /// Computes the columns of all races that count.
 pub(crate) fn all_columns(
     alloc: Global,
-    draft: &Draft,
+    sheets: &Sheets,
+    counts: &[bool],
     rules: &Rules,
     work: &mut Work,
 ) -> Result<Vec<Column>, AllocError>
-    requires kept { IsKept draft.now }
+    requires sheets { length sheets.now ≡ MAX_RACES }
+    requires counts { length counts.now ≡ MAX_RACES }
     requires work { work.old + MAX_RACES < 2 ^ 32 }
-    ensures value { IfOk result (λ columns. AreColumns rules.now draft.now columns.items) }
+    ensures value { IfOk result (λ columns.
+        AreColumns rules.now sheets.now counts.now columns.items) }
     ensures long { IfOk result (λ columns. length columns.items ≡ MAX_RACES) }
-    ensures counted { OnOk result (work.new ≡ work.old + length (races_of draft.now.counts)) }
+    ensures counted { OnOk result (work.new ≡ work.old + length (races_of counts.now)) }
 {
-    let mut columns = Vec::with_capacity(alloc, MAX_RACES as usize)?;
-    for i in 0..MAX_RACES {
-        columns.push(column_if_scored(alloc, draft, i + 1, rules, work)?)?;
+    let mut columns = Vec::with_capacity(alloc, RACES)?;
+    for k in 0..RACES {
+        columns.push(column_if(alloc, counts[k], sheets.at(k), rules, work)?)?;
     }
     Ok(columns)
 }
 
-/// Recomputes the column of one race.
-pub(crate) fn new_column(
-    alloc: Global,
-    draft: &Draft,
-    race: RaceNo,
-    rules: &Rules,
-    work: &mut Work,
-) -> Result<NewColumn, AllocError>
-    requires kept { IsKept draft.now }
-    requires work { work.old + 1 < 2 ^ 32 }
-    ensures race { IfOk result (λ new. new.race ≡ race) }
-    ensures value { IfOk result (λ new. new.column ≡ column_at rules.now draft.now (race - 1)) }
-    ensures counted { OnOk result (work.new ≡ work.old + once_if_counted draft.now race) }
-    ensures range { IsRace race }
-{
-    let column = column_if_scored(alloc, draft, race.get(), rules, work)?;
-    Ok(NewColumn { race, column })
+/// The new column of one race. It is empty if the race doesn't count.
+#[derive(Drop)]
+pub(crate) struct NewColumn {
+    pub race: RaceNo,
+    pub column: Column,
 }
 
 /// The column of a race, after a new one replaces that of its race.
@@ -154,7 +134,7 @@ fn current<'a>(old: &'a [Column], new: Option<&'a NewColumn>, race: RaceNo) -> R
                 column,
             },
         ) if changed.get() == race.get() => column,
-        Some(_) | None => &old[race.get() as usize - 1],
+        Some(_) | None => &old[index_of(race)],
     };
     column.as_race_column()
 }
@@ -171,8 +151,7 @@ pub(crate) fn push_columns<'a>(
     requires few { length races.now ≤ MAX_RACES }
     requires none { found.old.items ≡ [] }
     ensures { found.new.items
-        ≡ map (λ race. slice_index_or (with_column old.now (option_copied new.entry)) (race - 1) [])
-        races.now }
+        ≡ columns_in (with_column old.now (option_copied new.entry)) races.now }
 {
     for &race in races {
         found.push(current(old, new, race));

@@ -1,32 +1,27 @@
 //! The scores that are kept: a column for each race, a line for each boat, and their ranking.
-ghost use Rattle.std.specs.Prelude.{◌≡◌, ◌+◌, ◌-◌, ◌<◌, ◌≤◌, ◌^◌, ℕ, true, false, length};
-ghost use Rattle.std.specs.Prelude.{◌++◌, ◌∷◌, [], slice_index_or, All, IfOk, OnOk, Some};
-ghost use Rattle.std.specs.Prelude.{vec_capacity};
+ghost use Rattle.std.specs.Prelude.{◌≡◌, ◌-◌, ◌<◌, ◌≤◌, length, ◌++◌, ◌∷◌, [], slice_index_or};
+ghost use Rattle.std.specs.Prelude.{All, IfOk, OnOk, Some, vec_capacity};
 ghost use Rattle.std.specs.Option.{option_copied};
-ghost use Rattle.regatta_terms.specs.Entries.{IsRace};
+ghost use Rattle.regatta_terms.specs.declared.limits.TheConstants.{MAX_RACES};
 ghost use Rattle.regatta_terms.specs.Rules.{RulesParts};
-ghost use Rattle.regatta_scores.specs.Current.{with_changed, AreOfBoats, AreWithin};
 ghost use Rattle.regatta_scores.specs.KeptRanking.{IsRanking};
 ghost use Rattle.regatta_scores.specs.Lines.{line_by as line_of};
-ghost use Rattle.regatta_scores.specs.RaceScores.{no_score, scores_in as scores_of, ScoresAs};
+ghost use Rattle.regatta_scores.specs.RaceScores.{scores_in as scores_of};
 ghost use Rattle.regatta_board.specs.Refusals.{limits};
-ghost use Rattle.regatta_board.specs.Revisions.{revised};
-ghost use Rattle.regatta_board.specs.Scoring.{IsScoring, AreNewScores, AreColumns, AddsBoat};
-ghost use Rattle.regatta_board.specs.Scoring.{AreOtherColumns, TurnsColumn, AreSameRaces, IsOneMore};
-ghost use Rattle.regatta_board.specs.Scoring.{FitLines, IsPushed, lines_by, most_remade};
-ghost use Rattle.regatta_board.specs.Scoring.{once_if_counted, touched_at, with_column, with_scores};
-ghost use Rattle.regatta_board.specs.Table.{no_line, races as races_of, IsKept};
-ghost use Rattle.regatta_board.specs.Table.{column as column_of, lines as lines_of};
-ghost use Rattle.regatta_board.specs.Table.{table as table_of};
+ghost use Rattle.regatta_board.specs.Scoring.{columns_in, with_column, touched_at, IsScoring};
+ghost use Rattle.regatta_board.specs.Scoring.{IsPushed, IsTurned, AreNewLines};
+ghost use Rattle.regatta_board.specs.Table.{lines as lines_of, table as table_of, IsKept};
 
-use crate::column::{Column, NewColumn, all_columns, made_column, new_column, push_columns};
-use crate::kept::{Draft, Kept, Revision};
+pub(crate) mod update;
+
+use crate::column::{Column, NewColumn, all_columns, push_columns};
+use crate::kept::{Kept, index_of};
 use crate::table::{races, sorted_rows};
 use regatta_scores::{
-    BoatLine, Items, NewLine, PerRace, RaceColumn, RaceScore, RaceSheet, Races, Ranking, Standing,
-    Work, boat_line,
+    BoatLine, Items, NewLine, PerRace, RaceColumn, RaceScore, Races, Ranking, Standing, Work,
+    boat_line,
 };
-use regatta_terms::{MAX_BOATS, MAX_RACES, RaceNo, Rules, Touched};
+use regatta_terms::{MAX_BOATS, RaceNo, Rules, Touched};
 use std::alloc::{AllocError, Global};
 use std::marker::Model;
 
@@ -56,42 +51,6 @@ impl Model for Scoring {
     } };
 
     ghost invariant = { λ s. limits.boats ≤ vec_capacity s.lines };
-}
-
-/// What a command changes of the scores.
-#[derive(Drop)]
-pub(crate) enum NewScores {
-    /// Nothing: the sheet of a race that doesn't count changed.
-    Same,
-    /// The column of a race that counts, in which no score changed in more than its abbreviation.
-    Column {
-        column: NewColumn,
-    },
-    /// The column of a race that counts, and the lines of the boats whose score in it changed in
-    /// more than its abbreviation, in the order of their numbers.
-    Sheet {
-        column: NewColumn,
-        lines: Vec<NewLine>,
-        ranking: Ranking,
-    },
-    /// A boat is entered before a race counts. Her line is empty.
-    Added {
-        columns: Vec<Column>,
-        ranking: Ranking,
-    },
-    /// A boat is entered. The lines have room for all boats that a series may have.
-    Entered {
-        columns: Vec<Column>,
-        lines: Vec<BoatLine>,
-        ranking: Ranking,
-    },
-    /// A race begins or ceases to count. The lines have room for all boats that a series may have.
-    Counts {
-        races: Races,
-        column: NewColumn,
-        lines: Vec<BoatLine>,
-        ranking: Ranking,
-    },
 }
 
 /// Appends a boat's new line after one column is recomputed, unless a line takes the same of her
@@ -151,19 +110,9 @@ fn changed_lines(
     columns: &[RaceColumn<'_>],
     rules: &Rules,
 ) -> Result<Vec<NewLine>, AllocError>
-    requires most { length lines.now ≤ limits.boats }
-    requires even { All (λ column. length column ≡ length lines.now) columns.now }
-    requires few { length columns.now ≤ MAX_RACES }
-    requires old { length old.now ≡ length lines.now }
-    requires new { length new.now ≡ length lines.now }
-    requires stays { (boat : ℕ) → boat < length lines.now
-        → ScoresAs (slice_index_or new.now boat no_score) (slice_index_or old.now boat no_score)
-        → slice_index_or lines.now boat no_line
-        ≡ line_of rules.now (scores_of columns.now boat) }
-    ensures each { IfOk result (λ made. AreOfBoats (length lines.now) made.items) }
-    ensures fewer { IfOk result (λ made. length made.items ≤ length lines.now) }
-    ensures value { IfOk result (λ made. with_changed lines.now made.items
-        ≡ lines_of rules.now columns.now (length lines.now)) }
+    requires { IsTurned rules.now lines.now old.now new.now columns.now }
+    ensures { IfOk result (λ made. AreNewLines lines.now
+        (lines_of rules.now columns.now (length lines.now)) made.items) }
 {
     // Mostly few lines change, so the list grows as they come.
     let mut made = Vec::new(alloc);
@@ -200,25 +149,27 @@ fn whole_lines(
     Ok(lines)
 }
 
-/// Computes the lines of all boats from these columns.
-fn drafted_lines(
+/// The lines of all boats in these races, after a new column replaces that of its race.
+fn lines_of_races(
     alloc: Global,
-    draft: &Draft,
-    old: &[Column],
+    columns: &[Column],
     new: Option<&NewColumn>,
     races: &[RaceNo],
+    boats: usize,
     rules: &Rules,
 ) -> Result<Vec<BoatLine>, AllocError>
-    requires kept { IsKept draft.now }
-    requires old { length old.now ≡ MAX_RACES }
-    requires columns { AreColumns rules.now draft.now (with_column old.now (option_copied new)) }
-    requires races { races.now ≡ races_of draft.now.counts }
-    ensures value { IfOk result (λ lines. lines.items ≡ lines_by rules.now draft.now) }
+    requires long { length columns.now ≡ MAX_RACES }
+    requires few { length races.now ≤ MAX_RACES }
+    requires most { boats ≤ limits.boats }
+    requires even { All (λ column. length column ≡ boats)
+        (columns_in (with_column columns.now (option_copied new)) races.now) }
+    ensures value { IfOk result (λ lines. lines.items ≡ lines_of rules.now
+        (columns_in (with_column columns.now (option_copied new.entry)) races.now) boats) }
     ensures room { IfOk result (λ lines. limits.boats ≤ vec_capacity lines) }
 {
     let mut found = PerRace::new();
-    push_columns(&mut found, old, new, races);
-    let lines = whole_lines(alloc, &found, draft.boats().len(), rules)?;
+    push_columns(&mut found, columns, new, races);
+    let lines = whole_lines(alloc, &found, boats, rules)?;
     Ok(lines)
 }
 
@@ -226,22 +177,16 @@ fn drafted_lines(
 fn remade_lines(
     alloc: Global,
     scoring: &Scoring,
-    kept: &Kept,
-    revision: &Revision,
     column: &NewColumn,
     rules: &Rules,
 ) -> Result<Vec<NewLine>, AllocError>
-    requires kept { IsKept kept.now }
-    requires next { IsKept (revised kept.now revision.now) }
-    requires scoring { IsScoring rules.now kept.now scoring.now }
-    requires counts { slice_index_or kept.now.counts (column.now.race - 1) false ≡ true }
-    requires same { AreSameRaces kept.now (revised kept.now revision.now) }
-    requires new { AreColumns rules.now (revised kept.now revision.now)
-        (with_column scoring.now.columns (Some column.now)) }
-    ensures each { IfOk result (λ made. AreOfBoats (length scoring.now.lines) made.items) }
-    ensures fewer { IfOk result (λ made. length made.items ≤ length scoring.now.lines) }
-    ensures value { IfOk result (λ made. with_changed scoring.now.lines made.items
-        ≡ lines_by rules.now (revised kept.now revision.now)) }
+    requires long { length scoring.now.columns ≡ MAX_RACES }
+    requires turned { IsTurned rules.now scoring.now.lines
+        (slice_index_or scoring.now.columns (column.now.race - 1) []) column.now.column
+        (columns_in (with_column scoring.now.columns (Some column.now)) scoring.now.races) }
+    ensures { IfOk result (λ made. AreNewLines scoring.now.lines (lines_of rules.now
+        (columns_in (with_column scoring.now.columns (Some column.now)) scoring.now.races)
+        (length scoring.now.lines)) made.items) }
 {
     let mut found = PerRace::new();
     push_columns(
@@ -250,187 +195,10 @@ fn remade_lines(
         Some(column),
         scoring.races.as_slice(),
     );
-    let old = &scoring.columns[column.race.get() as usize - 1];
+    let old = &scoring.columns[index_of(column.race)];
     let new = column.column.as_race_column();
     let lines = changed_lines(alloc, &scoring.lines, old, &new, &found, rules)?;
     Ok(lines)
-}
-
-/// The scores that the sheet of a race that counts changes.
-fn scores_of_sheet(
-    alloc: Global,
-    scoring: &Scoring,
-    kept: &Kept,
-    revision: &Revision,
-    race: RaceNo,
-    sheet: &RaceSheet,
-    rules: &Rules,
-    work: &mut Work,
-) -> Result<NewScores, AllocError>
-    requires kept { IsKept kept.now }
-    requires next { IsKept (revised kept.now revision.now) }
-    requires scoring { IsScoring rules.now kept.now scoring.now }
-    requires within { IsRace race }
-    requires counts { slice_index_or kept.now.counts (race - 1) false ≡ true }
-    requires same { AreSameRaces kept.now (revised kept.now revision.now) }
-    requires others { TurnsColumn rules.now kept.now (revised kept.now revision.now) race
-        (column_of rules.now sheet.now) }
-    requires work { work.old + MAX_RACES < 2 ^ 32 }
-    ensures value { IfOk result
-        (AreNewScores rules.now kept.now (revised kept.now revision.now)) }
-    ensures counted { OnOk result (work.new ≡ work.old + 1) }
-{
-    let column = made_column(alloc, sheet, rules, work)?;
-    let column = NewColumn { race, column };
-    let lines = remade_lines(alloc, scoring, kept, revision, &column, rules)?;
-    if lines.is_empty() {
-        return Ok(NewScores::Column { column });
-    }
-    let ranking = scoring.ranking.after(alloc, &scoring.lines, &lines)?;
-    Ok(NewScores::Sheet {
-        column,
-        lines,
-        ranking,
-    })
-}
-
-/// The scores that a boat's entry changes.
-fn scores_with_boat(
-    alloc: Global,
-    scoring: &Scoring,
-    kept: &Kept,
-    revision: &Revision,
-    rules: &Rules,
-    work: &mut Work,
-) -> Result<NewScores, AllocError>
-    requires kept { IsKept kept.now }
-    requires next { IsKept (revised kept.now revision.now) }
-    requires scoring { IsScoring rules.now kept.now scoring.now }
-    requires one { IsOneMore kept.now (revised kept.now revision.now) }
-    requires work { work.old + MAX_RACES < 2 ^ 32 }
-    ensures value { IfOk result
-        (AreNewScores rules.now kept.now (revised kept.now revision.now)) }
-    ensures counted { OnOk result (work.new
-        ≡ work.old + length (races_of (revised kept.now revision.now).counts)) }
-{
-    let draft = Draft::new(kept, revision);
-    let columns = all_columns(alloc, &draft, rules, work)?;
-    let races = scoring.races.as_slice();
-    // Until a race counts, a boat's line is empty.
-    if races.is_empty() {
-        let ranking = scoring
-            .ranking
-            .with_boat(alloc, &scoring.lines, &BoatLine::empty())?;
-        return Ok(NewScores::Added { columns, ranking });
-    }
-    let lines = drafted_lines(alloc, &draft, &columns, None, races, rules)?;
-    let ranking = Ranking::of(alloc, &lines)?;
-    Ok(NewScores::Entered {
-        columns,
-        lines,
-        ranking,
-    })
-}
-
-/// The scores that change when a race begins or ceases to count.
-fn scores_of_races(
-    alloc: Global,
-    scoring: &Scoring,
-    kept: &Kept,
-    revision: &Revision,
-    race: RaceNo,
-    rules: &Rules,
-    work: &mut Work,
-) -> Result<NewScores, AllocError>
-    requires kept { IsKept kept.now }
-    requires next { IsKept (revised kept.now revision.now) }
-    requires scoring { IsScoring rules.now kept.now scoring.now }
-    requires others { AreOtherColumns rules.now kept.now (revised kept.now revision.now) race }
-    requires work { work.old + 1 < 2 ^ 32 }
-    ensures value { IfOk result
-        (AreNewScores rules.now kept.now (revised kept.now revision.now)) }
-    ensures counted { OnOk result
-        (work.new ≡ work.old + once_if_counted (revised kept.now revision.now) race) }
-    ensures range { IsRace race }
-{
-    let draft = Draft::new(kept, revision);
-    let column = new_column(alloc, &draft, race, rules, work)?;
-    let races = races(alloc, &draft)?;
-    let lines = drafted_lines(
-        alloc,
-        &draft,
-        &scoring.columns,
-        Some(&column),
-        &races,
-        rules,
-    )?;
-    let ranking = Ranking::of(alloc, &lines)?;
-    Ok(NewScores::Counts {
-        races: Items::new(races),
-        column,
-        lines,
-        ranking,
-    })
-}
-
-/// Computes what a revision changes of the scores.
-pub(crate) fn new_scores(
-    alloc: Global,
-    scoring: &Scoring,
-    kept: &Kept,
-    revision: &Revision,
-    rules: &Rules,
-    work: &mut Work,
-) -> Result<NewScores, AllocError>
-    requires kept { IsKept kept.now }
-    requires next { IsKept (revised kept.now revision.now) }
-    requires adds { AddsBoat kept.now revision.now }
-    requires scoring { IsScoring rules.now kept.now scoring.now }
-    requires work { work.old + MAX_RACES < 2 ^ 32 }
-    ensures value { IfOk result
-        (AreNewScores rules.now kept.now (revised kept.now revision.now)) }
-    ensures counted { OnOk result
-        (work.new ≤ work.old + most_remade kept.now revision.now) }
-{
-    match revision {
-        Revision::Enter { .. } => {
-            let new = scores_with_boat(alloc, scoring, kept, revision, rules, work)?;
-            Ok(new)
-        }
-        Revision::Sheet { race, sheet } if kept.is_scored(*race) => {
-            let new = scores_of_sheet(alloc, scoring, kept, revision, *race, sheet, rules, work)?;
-            Ok(new)
-        }
-        Revision::Sheet { .. } => Ok(NewScores::Same),
-        Revision::Counts { race, .. } => {
-            let new = scores_of_races(alloc, scoring, kept, revision, *race, rules, work)?;
-            Ok(new)
-        }
-    }
-}
-
-/// Moves the new column of a race in.
-fn put_column(columns: &mut Vec<Column>, new: NewColumn)
-    requires long { length columns.old.items ≡ MAX_RACES }
-    ensures { columns.new.items ≡ with_column columns.old.items (Some new) }
-{
-    columns[new.race.get() as usize - 1] = new.column;
-}
-
-/// Moves a boat's new line in.
-fn put_line(line: &mut BoatLine, new: BoatLine)
-    ensures { line.new ≡ new }
-{
-    *line = new;
-}
-
-fn put_changed(lines: &mut [BoatLine], new: Vec<NewLine>)
-    requires { AreWithin (length lines.old) new.items }
-    ensures { lines.new ≡ with_changed lines.old new.items }
-{
-    for changed in new {
-        put_line(&mut lines[changed.boat as usize], changed.line);
-    }
 }
 
 impl Scoring {
@@ -439,10 +207,10 @@ impl Scoring {
         requires { IsKept kept.now }
         ensures { IfOk result (IsScoring rules.now kept.now) }
     {
-        let draft = Draft::of(kept);
-        let races = races(alloc, &draft)?;
-        let columns = all_columns(alloc, &draft, rules, &mut Work::new())?;
-        let lines = drafted_lines(alloc, &draft, &columns, None, &races, rules)?;
+        let races = races(alloc, kept.counts())?;
+        let mut work = Work::new();
+        let columns = all_columns(alloc, kept.sheets(), kept.counts(), rules, &mut work)?;
+        let lines = lines_of_races(alloc, &columns, None, &races, kept.boats(), rules)?;
         let ranking = Ranking::of(alloc, &lines)?;
         Ok(Scoring {
             races: Items::new(races),
@@ -450,52 +218,6 @@ impl Scoring {
             lines,
             ranking,
         })
-    }
-
-    /// Moves new scores in. It doesn't allocate.
-    pub(crate) fn revise(&mut self, new: NewScores)
-        requires long { length self.old.columns ≡ MAX_RACES }
-        requires fit { FitLines self.old.lines new }
-        ensures { self.new ≡ with_scores self.old new }
-    {
-        match new {
-            NewScores::Same => {}
-            NewScores::Column { column } => put_column(&mut self.columns, column),
-            NewScores::Sheet {
-                column,
-                lines,
-                ranking,
-            } => {
-                put_column(&mut self.columns, column);
-                put_changed(&mut self.lines, lines);
-                self.ranking = ranking;
-            }
-            NewScores::Added { columns, ranking } => {
-                self.columns = columns;
-                self.lines.push_reserved(BoatLine::empty());
-                self.ranking = ranking;
-            }
-            NewScores::Entered {
-                columns,
-                lines,
-                ranking,
-            } => {
-                self.columns = columns;
-                self.lines = lines;
-                self.ranking = ranking;
-            }
-            NewScores::Counts {
-                races,
-                column,
-                lines,
-                ranking,
-            } => {
-                self.races = races;
-                put_column(&mut self.columns, column);
-                self.lines = lines;
-                self.ranking = ranking;
-            }
-        }
     }
 
     /// The rank, tie and net points of the boat with this number, for an answer.
@@ -520,7 +242,6 @@ impl Scoring {
         ensures { IfOk result (λ made. (rules : RulesParts)
             → IsScoring rules kept.now self.now → made ≡ table_of rules kept.now) }
     {
-        let draft = Draft::of(kept);
         let races = Vec::from_slice(alloc, self.races.as_slice())?;
         let mut found = PerRace::new();
         push_columns(&mut found, &self.columns, None, &races);
@@ -529,7 +250,7 @@ impl Scoring {
             alloc,
             self.ranking.order(),
             &found,
-            draft.boats(),
+            kept.entry_list(),
             &self.lines,
             places.as_slice(),
         )?;

@@ -17,6 +17,13 @@ pub record OpenedValue : Type 0 where
   pub seats : ℕ
   pub history : TableId
 
+-- an office was opened with these rules, this journal and so many seats
+pub record IsOpenedWith (under : RulesParts) (journal : Journal) (count : ℕ) (opened : OpenedValue)
+    : Type 0 where
+  pub rules : opened.rules ≡ under
+  pub entries : opened.entries ≡ journal
+  pub seats : opened.seats ≡ count
+
 -- why an office with this start may fail to open: `Refused` names the first refused entry, and
 -- `NoReader` never comes if an entry is refused
 abbrev pub IsOpenFault : RulesParts → Journal → OpenFault → Type 0

@@ -1,6 +1,6 @@
 -- What contracts see of a pass, and what holds of each.
 use Rattle.std.specs.Prelude.{◌≡◌, ℕ, ◌-◌, ◌≤◌, List, [], ◌∷◌, ◌++◌, length, slice_get}
-use Rattle.std.specs.Prelude.{Option, Some, None}
+use Rattle.std.specs.Prelude.{Option, Some, None, true}
 use Rattle.std.specs.Prelude.{IsTrue, IfSome, All}
 use mathlib.Core.List.{IsPrefix}
 use Rattle.atomic_table.specs.Seated.{TableId}
@@ -9,7 +9,8 @@ use Rattle.regatta_terms.specs.Rules.{RulesParts}
 use Rattle.regatta_terms.specs.declared.command.Command.{Command}
 use Rattle.regatta_terms.specs.declared.command.Role.{Role}
 use Rattle.regatta_scores.specs.Journal.{Journal}
-use Rattle.regatta_board.specs.Refusals.{next_entry}
+use Rattle.regatta_board.specs.BoardFacts.{BoardValue}
+use Rattle.regatta_board.specs.Refusals.{is_lawful, limits, next_entry}
 use Rattle.regatta_tables.specs.ShownText.{IsTextOfFirst}
 use Rattle.regatta_watch.specs.Notes.{ListenerValue}
 use Rattle.regatta_watch.specs.Views.{journal_of, Names}
@@ -34,6 +35,11 @@ entry_of pass role command = next_entry pass.seat pass.last role command
 abbrev pub with_told : PassValue → Journal → PassValue
 with_told pass journal = record pass { told = pass.told ++ journal ∷ [] }
 
+-- the pass after its command was run: this entry is its last, and it was told of this journal
+abbrev pub with_run : PassValue → EntryParts → Journal → PassValue
+with_run pass entry journal =
+    record pass { last = entry.nth; told = pass.told ++ journal ∷ [] }
+
 -- the journal that was seen: that of its note, followed by the last entry if there is one
 abbrev pub seen_of : Seen → Journal
 seen_of seen = journal_of seen.journal.note.journal seen.journal.last
@@ -56,6 +62,12 @@ pub record IsTold (name : TableId) (listener : ListenerValue) (shared : TableId)
   pub shares : shared ≡ name
   pub longest : IsKnown listener.longest known
   pub each : All (λ j. IsPrefix j listener.longest) listener.told
+
+-- a lawful journal, with the ledger of a beginning of it, if there is one
+pub record GoesOnFrom (rules : RulesParts) (entries : Journal) (ledger : Option BoardValue) : Type 0
+  where
+    pub lawful : is_lawful limits rules entries ≡ true
+    pub begins : IfSome ledger (λ l. (l.rules ≡ rules) × IsPrefix l.entries entries)
 
 -- what a pass keeps of the sheet of this journal: its ledger, or none, and the text of its first
 -- entries

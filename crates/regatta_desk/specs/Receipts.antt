@@ -10,6 +10,11 @@ pub record ReceiptValue : Type 0 where
   pub answer : Answer
   pub journal : Journal
 
+-- the receipt with this answer and journal
+abbrev pub receipt_of : Answer → Journal → ReceiptValue
+receipt_of answer journal =
+    record { place = answer.place; answer = answer; journal = journal }
+
 -- the entry is the journal's last
 abbrev pub EndsWith : Journal → EntryParts → Type 0
 EndsWith journal entry = (before : Journal) × (journal ≡ before ++ entry ∷ [])

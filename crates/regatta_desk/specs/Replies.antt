@@ -23,7 +23,7 @@ use Rattle.regatta_talk.specs.declared.asked.AskedLine.TheVariants.{Desk, Apart}
 use Rattle.regatta_talk.specs.declared.asked.DeskLine.{DeskLine}
 use Rattle.regatta_talk.specs.declared.asked.DeskLine.TheVariants.{Do, Rank}
 use Rattle.regatta_desk.specs.Desks.{DeskValue, desk_with}
-use Rattle.regatta_desk.specs.Passes.{PassValue, entry_of}
+use Rattle.regatta_desk.specs.Passes.{PassValue, entry_of, with_run}
 
 -- ---- under the lock
 
@@ -33,10 +33,7 @@ pub record RanCommand (rules : RulesParts) (role : Role) (command : Command) (ol
     (before after : PassValue) (reply : Reply) : Type 0 where
   pub accepted : refusal limits rules old.entries (entry_of before role command) ≡ None
   pub desk : new ≡ desk_with old (entry_of before role command)
-  pub pass : after ≡ record before {
-    last = (entry_of before role command).nth;
-    told = before.told ++ new.entries ∷ [];
-  }
+  pub pass : after ≡ with_run before (entry_of before role command) new.entries
   pub answered : reply ≡ reply_of (Ok (answer rules old.entries (entry_of before role command)))
 
 -- a command that was refused: nothing has changed

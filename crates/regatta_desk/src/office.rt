@@ -4,7 +4,7 @@ ghost use Rattle.std.specs.Prelude.{IfOk, IfErr, OnOk};
 ghost use Rattle.regatta_board.specs.Refusals.{limits, is_lawful};
 ghost use Rattle.regatta_terms.specs.declared.limits.TheConstants.{MAX_SEATS};
 ghost use Rattle.regatta_watch.specs.Views.{Sees};
-ghost use Rattle.regatta_desk.specs.Offices.{IsOpenFault, AreSeated, seated};
+ghost use Rattle.regatta_desk.specs.Offices.{AreSeated, IsOpenFault, IsOpenedWith, seated};
 
 use crate::desk::Desk;
 use crate::opening::{OpenFault, board_of, watched};
@@ -77,7 +77,7 @@ impl<N: OfficeName, R: Wait + Drop> Office<N, R> {
 
 impl<R: Wait + Drop> Office<Brand, R> {
     /// Opens an office with `seats` seats and the journal `start`. The office has no name yet.
-    /// Opening waits for nobody.
+    /// Opening takes no lock. Its type lets it wait, and no clause says that it doesn't.
     ///
     /// # Errors
     ///
@@ -91,9 +91,7 @@ impl<R: Wait + Drop> Office<Brand, R> {
         seats: u8,
         start: &[Entry],
     ) -> Result<Opened<R>, OpenFault>
-        ensures rules { IfOk result (λ o. o.rules ≡ rules.now) }
-        ensures journal { IfOk result (λ o. o.entries ≡ start.now) }
-        ensures seats { IfOk result (λ o. o.seats ≡ seats) }
+        ensures opened { IfOk result (IsOpenedWith rules.now start.now seats) }
         ensures lawful { OnOk result (is_lawful limits rules.now start.now ≡ true) }
         ensures bad_seats { (result ≡ Err OpenFault.BadSeats)
             ↔ ((seats ≡ 0) ⊎ (MAX_SEATS < seats)) }
@@ -118,9 +116,7 @@ fn opened_with<R: Wait + Drop>(
 ) -> Result<Opened<R>, OpenFault>
     requires some { 0 < seats }
     requires few { seats ≤ MAX_SEATS }
-    ensures journal { IfOk result (λ o. o.entries ≡ board.entries) }
-    ensures rules { IfOk result (λ o. o.rules ≡ board.rules) }
-    ensures seats { IfOk result (λ o. o.seats ≡ seats) }
+    ensures opened { IfOk result (IsOpenedWith board.rules board.entries seats) }
     ensures fault { IfErr result (λ f. (f ≡ OpenFault.NoReader) ⊎ (f ≡ OpenFault.NoMemory)) }
 {
     let (history, publisher, watchers) = watched(rt, alloc, &board, seats)?;

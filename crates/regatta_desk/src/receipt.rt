@@ -1,6 +1,6 @@
 //! Receipts for commands that were run.
 ghost use Rattle.std.specs.Prelude.{◌≡◌, length};
-ghost use Rattle.regatta_desk.specs.Receipts.{EndsWith};
+ghost use Rattle.regatta_desk.specs.Receipts.{EndsWith, receipt_of};
 
 use regatta_terms::{Answer, Entry};
 use regatta_watch::{Note, OfficeName};
@@ -40,8 +40,7 @@ impl<N: OfficeName> Receipt<N> {
         requires place { answer.place ≡ length note.journal }
         requires ends { EndsWith note.journal entry }
         requires history { note.history ≡ N.history }
-        ensures { result
-            ≡ record { place = answer.place; answer = answer; journal = note.journal } }
+        ensures { result ≡ receipt_of answer note.journal }
     {
         Receipt {
             answer,

@@ -1,7 +1,7 @@
 //! Pieces of a document.
 
-ghost use Rattle.std.specs.Prelude.{◌≡◌, ◌≤◌, ◌<◌, ◌++◌, ◌+◌, flat_map, take, length, vec_len};
-ghost use Rattle.std.specs.Prelude.{vec_capacity, OnOk, OnErr};
+ghost use Rattle.std.specs.Prelude.{◌≡◌, flat_map, take, vec_capacity, OnOk, OnErr};
+ghost use Rattle.regatta_json.specs.Pushed.{Pushed};
 ghost use Rattle.regatta_json.specs.Rows.{flag_text};
 
 use std::alloc::AllocError;
@@ -20,12 +20,7 @@ pub fn flag(holds: bool) -> &'static [u8]
 /// `AllocError` if an allocation fails, and never if `out` has room for the pieces. Some first part
 /// of them may then be appended.
 pub fn push_pieces(out: &mut Vec<u8>, pieces: &[&[u8]]) -> Result<(), AllocError>
-    ensures ok { OnOk result (out.new.items
-        ≡ out.old.items ++ flat_map (λ piece. piece.now) pieces.now) }
-    ensures err { OnErr result (take (vec_len out.old) out.new.items ≡ out.old.items) }
-    ensures room { vec_capacity out.old ≤ vec_capacity out.new }
-    ensures full { OnErr result (vec_capacity out.old
-        < vec_len out.old + length (flat_map (λ piece. piece.now) pieces.now)) }
+    ensures { Pushed (flat_map (λ piece. piece.now) pieces.now) out.old out.new result }
 {
     for piece in pieces {
         out.extend_from_slice(piece)?;

@@ -1,7 +1,7 @@
 //! The rows of a list, and the values of one.
 
-ghost use Rattle.std.specs.Prelude.{◌≡◌, ℕ, List, ◌≤◌, ◌<◌, ◌++◌, ◌+◌, flat_map, take, length};
-ghost use Rattle.std.specs.Prelude.{vec_len, vec_capacity, OnOk, OnErr};
+ghost use Rattle.std.specs.Prelude.{ℕ, List, flat_map};
+ghost use Rattle.regatta_json.specs.Pushed.{Pushed};
 ghost use Rattle.regatta_json.specs.Rows.{listed, next_text, rows, values};
 
 use crate::pieces::push_pieces;
@@ -19,11 +19,7 @@ pub trait ItemWriter<T> {
     /// `AllocError` if an allocation fails, and never if `out` has room for the text. Some first
     /// part of it may then be appended.
     fn push_item(&self, item: &T, out: &mut Vec<u8>) -> Result<(), AllocError>
-        ensures ok { OnOk result (out.new.items ≡ out.old.items ++ text self.now item.now) }
-        ensures err { OnErr result (take (vec_len out.old) out.new.items ≡ out.old.items) }
-        ensures room { vec_capacity out.old ≤ vec_capacity out.new }
-        ensures full { OnErr result (vec_capacity out.old
-            < vec_len out.old + length (text self.now item.now)) };
+        ensures { Pushed (text self.now item.now) out.old out.new result };
 }
 
 /// Appends an item that isn't the first of its list.
@@ -33,12 +29,7 @@ fn push_next<T, W: ItemWriter<T>>(
     item: &T,
     out: &mut Vec<u8>,
 ) -> Result<(), AllocError>
-    ensures ok { OnOk result (out.new.items
-        ≡ out.old.items ++ next_text separator.now (W.text writer.now) item.now) }
-    ensures err { OnErr result (take (vec_len out.old) out.new.items ≡ out.old.items) }
-    ensures room { vec_capacity out.old ≤ vec_capacity out.new }
-    ensures full { OnErr result (vec_capacity out.old
-        < vec_len out.old + length (next_text separator.now (W.text writer.now) item.now)) }
+    ensures { Pushed (next_text separator.now (W.text writer.now) item.now) out.old out.new result }
 {
     push_pieces(out, &[separator])?;
     writer.push_item(item, out)?;
@@ -52,12 +43,8 @@ fn push_rest<T, W: ItemWriter<T>>(
     items: &[T],
     out: &mut Vec<u8>,
 ) -> Result<(), AllocError>
-    ensures ok { OnOk result (out.new.items
-        ≡ out.old.items ++ flat_map (next_text separator.now (W.text writer.now)) items.now) }
-    ensures err { OnErr result (take (vec_len out.old) out.new.items ≡ out.old.items) }
-    ensures room { vec_capacity out.old ≤ vec_capacity out.new }
-    ensures full { OnErr result (vec_capacity out.old < vec_len out.old
-        + length (flat_map (next_text separator.now (W.text writer.now)) items.now)) }
+    ensures { Pushed (flat_map (next_text separator.now (W.text writer.now)) items.now)
+        out.old out.new result }
 {
     for item in items {
         push_next(separator, writer, item, out)?;
@@ -72,12 +59,7 @@ fn push_listed<T, W: ItemWriter<T>>(
     items: &[T],
     out: &mut Vec<u8>,
 ) -> Result<(), AllocError>
-    ensures ok { OnOk result (out.new.items
-        ≡ out.old.items ++ listed separator.now (W.text writer.now) items.now) }
-    ensures err { OnErr result (take (vec_len out.old) out.new.items ≡ out.old.items) }
-    ensures room { vec_capacity out.old ≤ vec_capacity out.new }
-    ensures full { OnErr result (vec_capacity out.old
-        < vec_len out.old + length (listed separator.now (W.text writer.now) items.now)) }
+    ensures { Pushed (listed separator.now (W.text writer.now) items.now) out.old out.new result }
 {
     match items.split_first() {
         Some((first, rest)) => {
@@ -100,11 +82,7 @@ pub fn push_rows<T, W: ItemWriter<T>>(
     items: &[T],
     out: &mut Vec<u8>,
 ) -> Result<(), AllocError>
-    ensures ok { OnOk result (out.new.items ≡ out.old.items ++ rows (W.text writer.now) items.now) }
-    ensures err { OnErr result (take (vec_len out.old) out.new.items ≡ out.old.items) }
-    ensures room { vec_capacity out.old ≤ vec_capacity out.new }
-    ensures full { OnErr result (vec_capacity out.old
-        < vec_len out.old + length (rows (W.text writer.now) items.now)) }
+    ensures { Pushed (rows (W.text writer.now) items.now) out.old out.new result }
 {
     push_listed(b",\n", writer, items, out)
 }
@@ -120,12 +98,7 @@ pub fn push_values<T, W: ItemWriter<T>>(
     items: &[T],
     out: &mut Vec<u8>,
 ) -> Result<(), AllocError>
-    ensures ok { OnOk result (out.new.items
-        ≡ out.old.items ++ values (W.text writer.now) items.now) }
-    ensures err { OnErr result (take (vec_len out.old) out.new.items ≡ out.old.items) }
-    ensures room { vec_capacity out.old ≤ vec_capacity out.new }
-    ensures full { OnErr result (vec_capacity out.old
-        < vec_len out.old + length (values (W.text writer.now) items.now)) }
+    ensures { Pushed (values (W.text writer.now) items.now) out.old out.new result }
 {
     push_listed(b",", writer, items, out)
 }

@@ -1,8 +1,9 @@
 -- What a result's clauses say once it is known which it is.
 use Rattle.std.proofs.Common.{◌≡◌, ◌+◌, ℕ, Option, None, Result, Ok, Err, IsErrOf, refl, ap, ◌∙◌}
-use Rattle.std.proofs.Common.{sym, subst}
+use Rattle.std.proofs.Common.{sym, subst, add-zero}
 use Rattle.regatta_terms.specs.declared.reply.Refusal.{Refusal}
-use Rattle.regatta_office.specs.Faults.{IsRunFaultOf, scribe_fault}
+use Rattle.regatta_office.specs.Faults.{IsDeviceFault, IsRunFaultOf, scribe_fault}
+use Rattle.regatta_office.specs.Faults.{writes_failed_by}
 use Rattle.regatta_office.specs.Starts.{IsRunFault}
 use Rattle.regatta_office.specs.declared.run.RunFault.{RunFault}
 use Rattle.regatta_office.specs.declared.run.RunFault.TheVariants.{Read, Write, NoMemory}
@@ -53,10 +54,18 @@ start_stands due scribe.NoMemory r made none = subst (IsRunFault due) (sym made)
 -- and the writer alone may have failed
 pub writer_failed : (reads reads' writes mid writes' : ℕ) (fault : ScribeFault) (r : RunFault)
     → r ≡ scribe_fault fault → reads' ≡ reads → mid ≡ writes
-    → (fault ≡ scribe.Write → writes' ≡ mid + 1) → (fault ≡ scribe.NoMemory → writes' ≡ mid)
-    → IsRunFaultOf reads reads' writes writes' r
-writer_failed reads reads' writes mid writes' scribe.Write r made read well failed same =
+    → writes' ≡ mid + writes_failed_by fault → IsRunFaultOf reads reads' writes writes' r
+writer_failed reads reads' writes mid writes' scribe.Write r made read well counted =
     subst (IsRunFaultOf reads reads' writes writes') (sym made)
-    (read, failed refl ∙ ap (λ (n : ℕ). n + 1) well)
-writer_failed reads reads' writes mid writes' scribe.NoMemory r made read well failed same =
-    subst (IsRunFaultOf reads reads' writes writes') (sym made) (read, same refl ∙ well)
+    (read, counted ∙ ap (λ (n : ℕ). n + 1) well)
+writer_failed reads reads' writes mid writes' scribe.NoMemory r made read well counted =
+    subst (IsRunFaultOf reads reads' writes writes') (sym made) (read, counted ∙ add-zero mid ∙ well)
+
+-- the same after the start
+pub writer_counted : (reads reads' writes writes' : ℕ) (fault : ScribeFault) (r : RunFault)
+    → r ≡ scribe_fault fault → reads' ≡ reads → writes' ≡ writes + writes_failed_by fault
+    → IsDeviceFault reads reads' writes writes' r
+writer_counted reads reads' writes writes' scribe.Write r made read counted =
+    subst (IsDeviceFault reads reads' writes writes') (sym made) (read, counted)
+writer_counted reads reads' writes writes' scribe.NoMemory r made read counted =
+    subst (IsDeviceFault reads reads' writes writes') (sym made) (read, counted ∙ add-zero writes)

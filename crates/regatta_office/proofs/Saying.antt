@@ -58,14 +58,14 @@ said-heard rules talk (line ∷ rest) =
 
 -- what is to come at the beginning of a text is the answers to its lines
 pub coming-whole : (counts : Bool) (rules : RulesParts) (talk : Talk) (text : List ℕ)
-    → coming counts (record { rules = rules; talk = talk; line = [] }) text
+    → coming (record { rules = rules; talk = talk; line = [] }) counts text
     ≡ said rules talk (lines_by counts text)
 coming-whole counts rules talk text = ap (said rules talk) (heard_of_text counts text)
     ∙ said-heard rules talk (lines_by counts text)
 
 -- the end of a line
 pub line_ends : (counts : Bool) (point : Point) (byte : ℕ) (rest : List ℕ) → is_line_end byte ≡ true
-    → coming counts point (byte ∷ rest)
+    → coming point counts (byte ∷ rest)
     ≡ ahead (text_after point.rules point.talk (line_of point.line))
     (unless (is_quit (line_of point.line)) counts
     (record {
@@ -81,8 +81,8 @@ line_ends counts point byte rest is =
 -- other bytes of a line
 pub line_goes : (counts : Bool) (point : Point) (bytes rest : List ℕ)
     → list_any is_line_end bytes ≡ false
-    → coming counts point (bytes ++ rest) ≡ coming counts
-    (record point { line = fold heard_with point.line bytes }) rest
+    → coming point counts (bytes ++ rest) ≡ coming (record point { line = fold heard_with point.line bytes })
+    counts rest
 line_goes counts point bytes rest none = ap (said point.rules point.talk)
     (bytes_lines counts point.line bytes rest none)
 
@@ -100,7 +100,7 @@ last_said true rules talk text = refl
 last_said false rules talk text = ap (ahead text) (said-none rules talk)
 
 pub line_last : (point : Point) → 0 < length point.line
-    → coming true point []
+    → coming point true []
     ≡ ahead (text_after point.rules point.talk (line_of point.line))
     (ended (is_quit (line_of point.line)) (record {
       rules = point.rules;
@@ -120,7 +120,7 @@ unfolding heard_lines
 none_heard [] none = refl
 none_heard (byte ∷ line) none = absurd (omega (arith, none))
 
-pub line_none : (point : Point) → length point.line ≡ 0 → coming true point [] ≡ ended false point
+pub line_none : (point : Point) → length point.line ≡ 0 → coming point true [] ≡ ended false point
 line_none point none = ap (said point.rules point.talk) (none_heard point.line none)
     ∙ said-none point.rules point.talk
 

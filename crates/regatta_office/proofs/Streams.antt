@@ -10,7 +10,7 @@ use Rattle.std.proofs.Math.Seq.{take-append_seam}
 use Rattle.std.specs.Io.KnownBytes.{Appends, Consumes, Keeps}
 use Rattle.regatta_terms.specs.Lines.{line_of}
 use Rattle.regatta_streams.proofs.KnownBytes.{appends-none, appends-then, consumes-keeps}
-use Rattle.regatta_streams.proofs.KnownBytes.{consumes-then}
+use Rattle.regatta_streams.proofs.KnownBytes.{consumes-none, consumes-then}
 use Rattle.regatta_terms.specs.TextLines.{is_line_end, lines_of_pieces}
 use Rattle.regatta_office.specs.Coming.{Cuts, Stops, Finished, IsTooLong, IsWithin, Point, ReadSome}
 use Rattle.regatta_office.specs.Coming.{Said, Talked, Went, said, ahead, coming, ended, unless}
@@ -33,7 +33,7 @@ bytes_heard out before after bytes none is = record {
   wrote = appends-none out;
   rules = ap (λ (p : Point). p.rules) is;
   goes = λ counts rest. line_goes counts before bytes rest none
-      ∙ ap (λ (p : Point). coming counts p rest) (sym is);
+      ∙ ap (λ (p : Point). coming p counts rest) (sym is);
 }
 
 -- a line ended, and was answered
@@ -100,7 +100,7 @@ went-then a b c xs ys p q r quit u v = record {
   wrote = appends-then a b c u.written v.written u.wrote v.wrote;
   rules = v.rules ∙ u.rules;
   goes = λ counts rest.
-      ap (coming counts p) (append_assoc xs ys rest) ∙ u.goes counts (ys ++ rest)
+      ap (coming p counts) (append_assoc xs ys rest) ∙ u.goes counts (ys ++ rest)
       ∙ ap (ahead u.written) (v.goes counts rest)
       ∙ sym (ahead-ahead u.written v.written (unless quit counts r rest));
 }
@@ -163,7 +163,7 @@ went-quit a b xs ys p q u = record {
   written = u.written;
   wrote = u.wrote;
   rules = u.rules;
-  goes = λ counts rest. ap (coming counts p) (append_assoc xs ys rest) ∙ u.goes counts (ys ++ rest);
+  goes = λ counts rest. ap (coming p counts) (append_assoc xs ys rest) ∙ u.goes counts (ys ++ rest);
 }
 
 -- ---- a writer that failed, and out of memory
@@ -201,7 +201,7 @@ cut-then a b c xs rest p q u cut =
     subst (λ (s : Said). AppendsPrefix a c s.text) (sym (u.goes true rest))
     (prefix-behind a b c u.written _ u.wrote cut)
 
-nothing_comes : (q : Point) → coming false q [] ≡ ended false q
+nothing_comes : (q : Point) → coming q false [] ≡ ended false q
 unfolding heard_lines
 nothing_comes q = ap (said q.rules q.talk) (none q.line) ∙ said-none q.rules q.talk
   where
@@ -223,9 +223,9 @@ pub stop-then : (a b c : Option (List ℕ)) (xs rest : List ℕ) (p q : Point) �
 stop-then a b c xs rest p q u (n, wrote) = (
   length xs + n,
   subst (Appends a c)
-      (sym (ap (λ (s : Said). s.text) (ap (coming false p) (take-append-add xs rest n)
+      (sym (ap (λ (s : Said). s.text) (ap (coming p false) (take-append-add xs rest n)
       ∙ u.goes false (take n rest))))
-      (appends-then a b c u.written (coming false q (take n rest)).text u.wrote wrote),
+      (appends-then a b c u.written (coming q false (take n rest)).text u.wrote wrote),
 )
 
 -- what holds of each text that begins with what a reader gave
@@ -288,25 +288,25 @@ talked_quit a b c d p q given bytes left cut took u = record {
 }
   where
     by : (b : Option (List ℕ)) → IfSome b (λ rest. (quit : Bool)
-        × (coming true p (given ++ rest) ≡ ahead u.written (ended quit q)))
+        × (coming p true (given ++ rest) ≡ ahead u.written (ended quit q)))
     by None = tt
     by (Some rest) = (
       true,
-      ap (coming true p) (cut_of given bytes left rest cut) ∙ u.goes true (left ++ rest),
+      ap (coming p true) (cut_of given bytes left rest cut) ∙ u.goes true (left ++ rest),
     )
 
 -- `most` bytes were answered, and the reader gave more
 pub talked_long : (a b c d : Option (List ℕ)) (p q : Point) (most : ℕ) (given bytes left : List ℕ)
     → given ≡ bytes ++ left
     → length bytes ≡ most → 0 < length left
-    → Consumes a b given → Went c d bytes p q false → IfSome a (λ text. IsTooLong c d p most text)
+    → Consumes a b given → Went c d bytes p q false → IfSome a (λ text. IsTooLong c d (coming p) most text)
 talked_long a b c d p q most given bytes left cut full more took u =
-    from_given (IsTooLong c d p most) a b given took (λ rest.
+    from_given (IsTooLong c d (coming p) most) a b given took (λ rest.
     let split = cut_of given bytes left rest cut in
     let front : take most (given ++ rest) ≡ bytes = rw (split, sym full)
     (take-append_seam bytes (left ++ rest)) in
-    let said_is : coming false p (take most (given ++ rest)) ≡ ahead u.written (ended false q) =
-    ap (coming false p) (front ∙ sym (append-nil bytes)) ∙ u.goes false []
+    let said_is : coming p false (take most (given ++ rest)) ≡ ahead u.written (ended false q) =
+    ap (coming p false) (front ∙ sym (append-nil bytes)) ∙ u.goes false []
     ∙ ap (ahead u.written) (nothing_comes q)
     in
     record {
@@ -326,23 +326,49 @@ talked_long a b c d p q most given bytes left cut full more took u =
 pub within_quit : (a b c d : Option (List ℕ)) (p q : Point) (most : ℕ) (given bytes left : List ℕ)
     → given ≡ bytes ++ left
     → length bytes ≤ most → Consumes a b given → Went c d bytes p q true
-    → IfSome a (IsWithin p most)
+    → IfSome a (IsWithin (coming p) most)
 within_quit a b c d p q most given bytes left cut few took u =
-    from_given (IsWithin p most) a b given took (λ rest.
+    from_given (IsWithin (coming p) most) a b given took (λ rest.
     let split = cut_of given bytes left rest cut in
     let sum : length bytes + (most - length bytes) ≡ most = omega (arith, few) in
     let front : take most (given ++ rest) ≡ bytes ++ take (most - length bytes) (left ++ rest) =
     rw split (ap (λ (n : ℕ). take n (bytes ++ (left ++ rest))) (sym sum)
     ∙ take-append-add bytes (left ++ rest) (most - length bytes))
     in
-    inr (ap (λ (s : Said). s.quit) (ap (coming false p) front
+    inr (ap (λ (s : Said). s.quit) (ap (coming p false) front
     ∙ u.goes false (take (most - length bytes) (left ++ rest)))))
+
+-- a part of a run to its end: all was answered
+pub all_wrote : (a b d e : Option (List ℕ)) (p q : Point) → Talked a b d e p q None
+    → IfSome a (λ text. Appends d e (coming p true text).text)
+all_wrote None b d e p q u = tt
+all_wrote (Some text) None d e p q u = absurd u.took
+all_wrote (Some text) (Some rest) d e p q u =
+    let said_is : coming p true text ≡ ahead u.written (ended (u.ends refl).0 q) =
+    ap (coming p true) u.took ∙ (u.ends refl).1 in
+    subst (Appends d e) (sym (ap (λ (s : Said). s.text) said_is ∙ append-nil u.written)) u.wrote
+
+pub all_after : (a b d e : Option (List ℕ)) (p q : Point) → Talked a b d e p q None
+    → IfSome a (λ text. q.talk.journal ≡ (coming p true text).journal)
+all_after None b d e p q u = tt
+all_after (Some text) None d e p q u = absurd u.took
+all_after (Some text) (Some rest) d e p q u =
+    sym (ap (λ (s : Said). s.journal) (ap (coming p true) u.took ∙ (u.ends refl).1))
+
+-- nothing was read, and a read failed
+pub none_read : (a b d : Option (List ℕ)) (p : Point) → Keeps a b
+    → ReadSome a b d d (λ given. (coming p false given).text)
+none_read a b d p stays = (
+  [],
+  consumes-keeps a a b [] (consumes-none a) stays,
+  subst (λ (s : Said). Appends d d s.text) (sym (nothing_comes p)) (appends-none d),
+)
 
 -- one turn, and then another
 module _ (a b c d e f : Option (List ℕ)) (p q r : Point) (n : ℕ)
     (u : Talked a b d e p q (Some n)) where
-  u_goes : (counts : Bool) (rest : List ℕ) → coming counts p (u.given ++ rest)
-      ≡ ahead u.written (coming counts q rest)
+  u_goes : (counts : Bool) (rest : List ℕ) → coming p counts (u.given ++ rest)
+      ≡ ahead u.written (coming q counts rest)
   u_goes = (u.goes n refl).1
 
   u_count : length u.given ≡ n
@@ -359,12 +385,35 @@ module _ (a b c d e f : Option (List ℕ)) (p q r : Point) (n : ℕ)
     goes = λ k is. let same : n + m ≡ k = cc is in (
       length-append u.given v.given ∙ (λ i. u_count i + (v.goes m refl).0 i) ∙ same,
       λ counts rest.
-          ap (coming counts p) (append_assoc u.given v.given rest) ∙ u_goes counts (v.given ++ rest)
+          ap (coming p counts) (append_assoc u.given v.given rest) ∙ u_goes counts (v.given ++ rest)
           ∙ ap (ahead u.written) ((v.goes m refl).1 counts rest)
-          ∙ sym (ahead-ahead u.written v.written (coming counts r rest)),
+          ∙ sym (ahead-ahead u.written v.written (coming r counts rest)),
     );
     ends = λ is. absurd (cc is);
   }
+
+  -- the run ended
+  pub talked_end : Talked b c e f q r None → Talked a c d f p r None
+  talked_end v = record {
+    given = u.given ++ v.given;
+    took = consumes-then a b c u.given v.given u.took v.took;
+    written = u.written ++ v.written;
+    wrote = appends-then d e f u.written v.written u.wrote v.wrote;
+    rules = v.rules ∙ u.rules;
+    goes = λ k is. absurd (cc is);
+    ends = λ is. by c (v.ends refl);
+  }
+    where
+      by : (c : Option (List ℕ)) → IfSome c (λ rest. (quit : Bool)
+          × (coming q true (v.given ++ rest) ≡ ahead v.written (ended quit r)))
+          → IfSome c (λ rest. (quit : Bool) × (coming p true ((u.given ++ v.given) ++ rest)
+          ≡ ahead (u.written ++ v.written) (ended quit r)))
+      by None end = tt
+      by (Some rest) (quit, is) = (
+        quit,
+        ap (coming p true) (append_assoc u.given v.given rest) ∙ u_goes true (v.given ++ rest)
+            ∙ ap (ahead u.written) is ∙ sym (ahead-ahead u.written v.written (ended quit r)),
+      )
 
   -- the reader gave n bytes, and then at most `most` more
   pub gave_more : (most limit : ℕ) → n + most ≤ limit → GaveAtMost most b c → GaveAtMost limit a c
@@ -376,12 +425,12 @@ module _ (a b c d e f : Option (List ℕ)) (p q r : Point) (n : ℕ)
   )
 
   -- the reader broke off
-  pub broke_off : Keeps b c → ReadSome a c d e (λ given. (coming false p given).text)
+  pub broke_off : Keeps b c → ReadSome a c d e (λ given. (coming p false given).text)
   broke_off stays = (
     u.given,
     consumes-keeps a b c u.given u.took stays,
     subst (Appends d e)
-        (sym (ap (λ (s : Said). s.text) (ap (coming false p) (sym (append-nil u.given))
+        (sym (ap (λ (s : Said). s.text) (ap (coming p false) (sym (append-nil u.given))
         ∙ u_goes false [] ∙ ap (ahead u.written) (nothing_comes q)) ∙ append-nil u.written))
         u.wrote,
   )
@@ -396,33 +445,33 @@ module _ (a b c d e f : Option (List ℕ)) (p q r : Point) (n : ℕ)
   stop_at = before_rest (Stops d f p) (Stops e f q) a b u.given u.took (λ rest k. (
     length u.given + k.0,
     subst (Appends d f) (sym (ap (λ (s : Said). s.text)
-        (ap (coming false p) (take-append-add u.given rest k.0) ∙ u_goes false (take k.0 rest))))
-        (appends-then d e f u.written (coming false q (take k.0 rest)).text u.wrote k.1),
+        (ap (coming p false) (take-append-add u.given rest k.0) ∙ u_goes false (take k.0 rest))))
+        (appends-then d e f u.written (coming q false (take k.0 rest)).text u.wrote k.1),
   ))
 
   -- the first bytes of what was given and of the rest
-  front : (most : ℕ) (rest : List ℕ) → coming false p (take (n + most) (u.given ++ rest))
-      ≡ ahead u.written (coming false q (take most rest))
+  front : (most : ℕ) (rest : List ℕ) → coming p false (take (n + most) (u.given ++ rest))
+      ≡ ahead u.written (coming q false (take most rest))
   front most rest =
-      ap (λ (m : ℕ). coming false p (take (m + most) (u.given ++ rest))) (sym u_count)
-      ∙ ap (coming false p) (take-append-add u.given rest most) ∙ u_goes false (take most rest)
+      ap (λ (m : ℕ). coming p false (take (m + most) (u.given ++ rest))) (sym u_count)
+      ∙ ap (coming p false) (take-append-add u.given rest most) ∙ u_goes false (take most rest)
 
   -- the text ends within the limit, or a QUIT does
-  pub within_at : (most : ℕ) → IfSome b (IsWithin q most) → IfSome a (IsWithin p (n + most))
-  within_at most = before_rest (IsWithin p (n + most)) (IsWithin q most) a b u.given u.took by
+  pub within_at : (most : ℕ) → IfSome b (IsWithin (coming q) most) → IfSome a (IsWithin (coming p) (n + most))
+  within_at most = before_rest (IsWithin (coming p) (n + most)) (IsWithin (coming q) most) a b u.given u.took by
     where
-      by : (rest : List ℕ) → IsWithin q most rest → IsWithin p (n + most) (u.given ++ rest)
+      by : (rest : List ℕ) → IsWithin (coming q) most rest → IsWithin (coming p) (n + most) (u.given ++ rest)
       by rest (inl few) = inl (omega (arith, few, u_count, length-append u.given rest))
       by rest (inr quit) = inr (ap (λ (s : Said). s.quit) (front most rest) ∙ quit)
 
   -- the text is too long
-  pub too_long_at : (most : ℕ) → IfSome b (λ text. IsTooLong e f q most text)
-      → IfSome a (λ text. IsTooLong d f p (n + most) text)
+  pub too_long_at : (most : ℕ) → IfSome b (λ text. IsTooLong e f (coming q) most text)
+      → IfSome a (λ text. IsTooLong d f (coming p) (n + most) text)
   too_long_at most =
-      before_rest (IsTooLong d f p (n + most)) (IsTooLong e f q most) a b u.given u.took (λ rest k.
+      before_rest (IsTooLong d f (coming p) (n + most)) (IsTooLong e f (coming q) most) a b u.given u.took (λ rest k.
       record {
         long = let l = k.long in omega (arith, l, u_count, length-append u.given rest);
         quit = ap (λ (s : Said). s.quit) (front most rest) ∙ k.quit;
         wrote = subst (Appends d f) (sym (ap (λ (s : Said). s.text) (front most rest)))
-            (appends-then d e f u.written (coming false q (take most rest)).text u.wrote k.wrote);
+            (appends-then d e f u.written (coming q false (take most rest)).text u.wrote k.wrote);
       })

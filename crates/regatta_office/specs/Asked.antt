@@ -1,6 +1,6 @@
 -- What a run may be asked for, and a run that does it.
 use Rattle.std.specs.Prelude.{◌≡◌, ◌≤◌, ℕ, Bool, true, length, List, [], Option, Some, None}
-use Rattle.std.specs.Prelude.{IfSome, Ok, ◌⊎◌}
+use Rattle.std.specs.Prelude.{IfOk, IfSome, OnOk, Ok, Result, ◌⊎◌}
 use Rattle.std.specs.Io.KnownBytes.{Appends, Keeps}
 use mathlib.Core.List.{IsPrefix}
 use Rattle.regatta_streams.specs.Texts.{AppendsPrefix}
@@ -66,6 +66,13 @@ pub record Begins (series : Series) (rules : RulesParts) (start : Journal) : Typ
   pub sails : List (List ℕ)
   pub from_entries : AreSailsAt series.entries sails
   pub both : start ≡ start_of journal sails
+
+-- the parts of such a beginning
+pub record ArePartsOf (series : Series) (rules : RulesParts) (journal : Journal)
+    (sails : List (List ℕ)) : Type 0 where
+  pub read : rules_of_texts series.absent series.scp series.exclude series.handicap ≡ Ok rules
+  pub from_journal : IsJournalAt series.journal journal
+  pub from_entries : AreSailsAt series.entries sails
 
 -- a text of a kept file stands for this journal, and has this torn end
 pub record IsKeptText (text : List ℕ) (journal : Journal) (torn : List ℕ) : Type 0 where
@@ -143,6 +150,19 @@ pub record BreaksOffTable (rules : RulesParts) (start : Journal) (old new : Opti
 abbrev pub PrintsAtMostTable : RulesParts → Journal → Option (List ℕ) → Option (List ℕ) → Type 0
 PrintsAtMostTable rules start old new =
     Keeps old new ⊎ (PrintsTable rules start old new ⊎ BreaksOffTable rules start old new)
+
+-- such a table was written; whatever the result, at most such a table was
+pub record TablePrinted {A E : Type 0} (rules : RulesParts) (start : Journal)
+    (old new : Option (List ℕ)) (result : Result A E) : Type 0 where
+  pub table : OnOk result (PrintsTable rules start old new)
+  pub at_most : PrintsAtMostTable rules start old new
+
+-- such a table was written, of a journal that is a beginning of the one that the result says is kept;
+-- whatever the result, at most such a table was
+pub record KeptTablePrinted {E : Type 0} (rules : RulesParts) (start : Journal)
+    (old new : Option (List ℕ)) (result : Result Journal E) : Type 0 where
+  pub table : IfOk result (λ kept. PrintsKeptTable rules start kept old new)
+  pub at_most : PrintsAtMostTable rules start old new
 
 -- nothing was written; or at most such a table, under the rules and from the entries that the
 -- series starts with

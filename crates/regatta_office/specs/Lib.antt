@@ -1,8 +1,10 @@
+pub mod Answers
 pub mod Asked
 pub mod Coming
 pub mod Complaints
 pub mod CutNotes
 pub mod Faults
+pub mod FinalParts
 pub mod KeptStarts
 pub mod Runs
 pub mod Scribes

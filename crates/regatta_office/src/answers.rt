@@ -5,8 +5,8 @@ ghost use Rattle.regatta_tables.specs.ReplyTexts.{reply_text};
 ghost use Rattle.regatta_talk.specs.Replies.{ranked as ranked_by};
 ghost use Rattle.regatta_board.specs.Runs.{sent};
 ghost use Rattle.regatta_office.specs.Transcript.{is_quit as is_quit_of};
-ghost use Rattle.regatta_office.specs.Turns.{is_out_of_memory as is_out_of_memory_by};
-ghost use Rattle.regatta_office.specs.Turns.{journal_after, reply_to, talk_after, text_after};
+ghost use Rattle.regatta_office.specs.Answers.{Answered, board_after, talk_of};
+ghost use Rattle.regatta_office.specs.Turns.{is_out_of_memory as is_out_of_memory_by, reply_to};
 
 use crate::shown::Shown;
 use regatta_board::{REPLAY_SEAT, next_entry};
@@ -28,12 +28,9 @@ fn is_out_of_memory(why: Refusal) -> bool
 
 /// Does a command, and returns its reply. Out of memory is no reply: it ends the run.
 fn do_command(board: &mut Shown, role: Role, command: Command) -> Result<Reply, AllocError>
-    ensures reply { IfOk result (λ reply. reply ≡ reply_to board.old.rules
-        (record { role = role; journal = board.old.entries }) command) }
-    ensures journal { OnOk result (board.new ≡ record board.old {
-      entries = journal_after
-          board.old.rules (record { role = role; journal = board.old.entries }) command;
-    }) }
+    ensures reply { IfOk result (λ reply. reply
+        ≡ reply_to board.old.rules (talk_of board.old role) command) }
+    ensures journal { OnOk result (board.new ≡ board_after board.old role command) }
     ensures err { OnErr result (board.new ≡ board.old) }
 {
     match board.apply(entry_of(board, role, command)) {
@@ -54,13 +51,9 @@ fn answer_command(
     command: Command,
     out: &mut Vec<u8>,
 ) -> Result<(), AllocError>
-    ensures text { OnOk result (out.new.items ≡ out.old.items ++ reply_text
-        (reply_to board.old.rules
-        (record { role = role; journal = board.old.entries }) command)) }
-    ensures journal { OnOk result (board.new ≡ record board.old {
-      entries = journal_after
-          board.old.rules (record { role = role; journal = board.old.entries }) command;
-    }) }
+    ensures text { OnOk result (out.new.items ≡ out.old.items
+        ++ reply_text (reply_to board.old.rules (talk_of board.old role) command)) }
+    ensures journal { OnOk result (board.new ≡ board_after board.old role command) }
     ensures err { OnErr result ((board.new ≡ board.old) × (out.new.items ≡ out.old.items)) }
 {
     make_room(out)?;
@@ -86,14 +79,7 @@ fn answer_line(
     line: Line,
     out: &mut Vec<u8>,
 ) -> Result<(), AllocError>
-    ensures text { OnOk result (out.new.items ≡ out.old.items ++ text_after board.old.rules
-        (record { role = role.old; journal = board.old.entries }) (Ok line)) }
-    ensures talk { OnOk result ((record { role = role.new; journal = board.new.entries })
-        ≡ talk_after board.old.rules
-        (record { role = role.old; journal = board.old.entries }) (Ok line)) }
-    ensures rules { OnOk result (board.new.rules ≡ board.old.rules) }
-    ensures err { OnErr result ((board.new ≡ board.old) × (role.new ≡ role.old)
-        × (out.new.items ≡ out.old.items)) }
+    ensures { Answered (Ok line) board.old board.new role.old role.new out.old out.new result }
 {
     match line {
         Line::Do(command) => answer_command(board, *role, command, out),
@@ -111,14 +97,7 @@ pub(crate) fn answer(
     asked: Result<Line, LineFault>,
     out: &mut Vec<u8>,
 ) -> Result<(), AllocError>
-    ensures text { OnOk result (out.new.items ≡ out.old.items ++ text_after board.old.rules
-        (record { role = role.old; journal = board.old.entries }) asked) }
-    ensures talk { OnOk result ((record { role = role.new; journal = board.new.entries })
-        ≡ talk_after board.old.rules
-        (record { role = role.old; journal = board.old.entries }) asked) }
-    ensures rules { OnOk result (board.new.rules ≡ board.old.rules) }
-    ensures err { OnErr result ((board.new ≡ board.old) × (role.new ≡ role.old)
-        × (out.new.items ≡ out.old.items)) }
+    ensures { Answered asked board.old board.new role.old role.new out.old out.new result }
 {
     match asked {
         Ok(line) => answer_line(board, role, line, out),

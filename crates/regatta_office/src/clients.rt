@@ -1,10 +1,10 @@
 //! Serves a series to clients at a socket.
-ghost use Rattle.std.specs.Prelude.{◌≡◌, ◌+◌, true, map, vec_len, IfOk, OnOk, IsErrOf};
-ghost use Rattle.std.specs.List.Sorted.{IsPermutation};
+ghost use Rattle.std.specs.Prelude.{◌≡◌, ◌+◌, vec_len, IfOk, OnOk, IsErrOf};
 ghost use Rattle.regatta_service.specs.Doors.{streams_asked};
-ghost use Rattle.regatta_service.specs.Faults.{IfBegun, door_failures_in};
+ghost use Rattle.regatta_service.specs.Servings.{ServesEach};
 ghost use Rattle.regatta_office.specs.Asked.{AtMostFrom, AtMostServingOf, Begins, IsServingOf};
-ghost use Rattle.regatta_office.specs.Asked.{PrintsAtMostTable, PrintsTable, ServesFrom};
+ghost use Rattle.regatta_office.specs.Asked.{ServesFrom, TablePrinted};
+ghost use Rattle.regatta_office.specs.Faults.{failed_writes_in};
 
 use crate::complaint::Complaint;
 use crate::final_part::print_final;
@@ -65,27 +65,18 @@ where
     D: Door,
     W: Sink,
     requires start { start.history ≡ N.history }
-    // The passes of all seats come back.
-    ensures seats { IfOk result.back (λ back.
-        IsPermutation (map (λ p. p.seat) passes.items) (map (λ p. p.seat) back.items)) }
+    // The passes of all seats come back, and each client that the door gave was admitted once.
+    ensures served { ServesEach D.failures D.given D.closed passes.items door.old door.new
+        result.admitted result.back }
     ensures count { IfOk result.back (λ back. vec_len back ≡ vec_len passes) }
-    ensures door { D.failures door.new ≡ D.failures door.old + door_failures_in result.back }
-
-    // Each client that the door gave was admitted once, until the door closed.
-    ensures each { D.given door.new ≡ D.given door.old + result.admitted }
-    ensures closed { IfBegun result.back (D.closed door.new ≡ true) }
-    ensures unbegun { IsErrOf result.back ServeFault.NoMemory → door.new ≡ door.old }
 
     // The table is printed even if serving failed. Its journal begins with the start.
-    ensures printed { OnOk result.printed
-        (PrintsTable N.rules start.journal (W.contents output.old) (W.contents output.new)) }
-    ensures at_most { PrintsAtMostTable N.rules start.journal (W.contents output.old)
-        (W.contents output.new) }
+    ensures printed { TablePrinted N.rules start.journal (W.contents output.old)
+        (W.contents output.new) result.printed }
 
     // A failed write is reported as `Write` and as nothing else. Without memory nothing is written.
-    ensures well { OnOk result.printed (W.failures output.new ≡ W.failures output.old) }
-    ensures write { IsErrOf result.printed ScribeFault.Write →
-        W.failures output.new ≡ W.failures output.old + 1 }
+    ensures writes { W.failures output.new
+        ≡ W.failures output.old + failed_writes_in result.printed }
     ensures silent { IsErrOf result.printed ScribeFault.NoMemory → output.new ≡ output.old }
 {
     let (back, admitted) = serve_each(rt, alloc, office, door, passes, &OpenGate);
@@ -101,42 +92,8 @@ where
 }
 
 /// Serves the socket's clients at the seats of this office. When the door is closed and all clients
-/// have gone, or if serving fails, prints the table of the office's journal. Returns the passes of
-/// all seats.
-fn serve_seats<N, H, R, W>(
-    rt: &R,
-    alloc: Global,
-    opened: Opened<H>,
-    options: &ServeOptions<'_>,
-    output: &mut W,
-) -> Result<Vec<Pass<N>>, Complaint>
-where
-    N: OfficeName + Send + Sync,
-    H: Wait + Drop + Send,
-    R: Files + Net + Threads + Wait + Clock + Sync,
-    W: Sink,
-    requires history { opened.history ≡ N.history }
-    requires rules { opened.rules ≡ N.rules }
-    requires seats { opened.seats ≡ options.now.clients }
-    ensures table { OnOk result
-        (PrintsTable N.rules opened.entries (W.contents output.old) (W.contents output.new)) }
-    ensures at_most { PrintsAtMostTable N.rules opened.entries (W.contents output.old)
-        (W.contents output.new) }
-
-    // As many seats were served as were asked for.
-    ensures seats { IfOk result (λ back. vec_len back ≡ options.now.clients) }
-{
-    let mut opened = opened;
-    let start = opened.start_note();
-    let (office, passes) = opened.split::<N>()?;
-    let mut door = door_of(rt, options)?;
-    let served = serve_and_print(rt, alloc, &office, &mut door, passes, start, output);
-    let back = served.back?;
-    served.printed?;
-    Ok(back)
-}
-
-/// The same. Returns how many seats were served.
+/// have gone, or if serving fails, prints the table of the office's journal. Returns how many seats
+/// were served.
 fn serve_office<N, H, R, W>(
     rt: &R,
     alloc: Global,
@@ -152,16 +109,30 @@ where
     requires history { opened.history ≡ N.history }
     requires rules { opened.rules ≡ N.rules }
     requires seats { opened.seats ≡ options.now.clients }
-    ensures table { OnOk result
-        (PrintsTable N.rules opened.entries (W.contents output.old) (W.contents output.new)) }
-    ensures at_most { PrintsAtMostTable N.rules opened.entries (W.contents output.old)
-        (W.contents output.new) }
+    ensures printed { TablePrinted N.rules opened.entries (W.contents output.old)
+        (W.contents output.new) result }
 
     // As many seats were served as were asked for.
     ensures seats { IfOk result (λ count. count ≡ options.now.clients) }
 {
-    let back = serve_seats::<N, H, R, W>(rt, alloc, opened, options, output)?;
-    Ok(back.len())
+    let mut opened = opened;
+    let start = opened.start_note();
+    let (office, passes) = opened.split::<N>()?;
+    let mut door = door_of(rt, options)?;
+    let served = serve_and_print(rt, alloc, &office, &mut door, passes, start, output);
+    let Served {
+        back,
+        admitted: _,
+        printed,
+    } = served;
+    let back = match back {
+        Ok(back) => back,
+        Err(fault) => return Err(Complaint::from(fault)),
+    };
+    match printed {
+        Ok(()) => Ok(back.len()),
+        Err(fault) => Err(Complaint::from(fault)),
+    }
 }
 
 /// Serves the series that the options ask for without a kept file: opens its office, serves clients at

@@ -1,9 +1,6 @@
 //! The final part of a run.
-ghost use Rattle.std.specs.Prelude.{◌≡◌, ◌+◌, ◌++◌, OnOk, IsErrOf};
-ghost use Rattle.std.specs.Io.KnownBytes.{Appends};
-ghost use Rattle.regatta_streams.specs.Texts.{AppendsPrefix};
-ghost use Rattle.regatta_scores.specs.AppendixA.{IsAppendixA};
-ghost use Rattle.regatta_scores.specs.Standing.{standing};
+ghost use Rattle.std.specs.Prelude.{◌≡◌, ◌++◌, OnOk};
+ghost use Rattle.regatta_office.specs.FinalParts.{PrintsFinal};
 ghost use Rattle.regatta_office.specs.Transcript.{final_text};
 
 use crate::form::Form;
@@ -42,16 +39,8 @@ pub(crate) fn print_final<W: Sink>(
     form: Form,
     output: &mut W,
 ) -> Result<(), ScribeFault>
-    ensures appendix_a { IsAppendixA board.now.rules board.now.entries
-        (standing board.now.rules board.now.entries) }
-    ensures wrote { OnOk result (Appends (W.contents output.old) (W.contents output.new)
-        (final_text board.now.rules form board.now.entries)) }
-    ensures well { OnOk result (W.failures output.new ≡ W.failures output.old) }
-    ensures write { IsErrOf result ScribeFault.Write →
-        W.failures output.new ≡ W.failures output.old + 1 }
-    ensures cut { IsErrOf result ScribeFault.Write → AppendsPrefix (W.contents output.old)
-        (W.contents output.new) (final_text board.now.rules form board.now.entries) }
-    ensures silent { IsErrOf result ScribeFault.NoMemory → output.new ≡ output.old }
+    ensures { PrintsFinal W.failures W.contents board.now.rules form board.now.entries output.old
+        output.new result }
 {
     board.standing_fits();
     let mut text = Vec::new(alloc);

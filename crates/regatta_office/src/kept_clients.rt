@@ -1,13 +1,12 @@
 //! Serves a series that is kept in a file to clients at a socket.
-ghost use Rattle.std.specs.Prelude.{◌≡◌, ◌≢◌, ◌+◌, [], Some, false, true, map, vec_len};
+ghost use Rattle.std.specs.Prelude.{◌≡◌, ◌≢◌, ◌+◌, [], false, vec_len};
 ghost use Rattle.std.specs.Prelude.{IfErr, IfOk, OnOk, IsErrOf};
-ghost use Rattle.std.specs.List.Sorted.{IsPermutation};
 ghost use mathlib.Core.List.{IsPrefix};
 ghost use Rattle.regatta_keep.specs.Systems.{system_failed};
 ghost use Rattle.regatta_service.specs.Doors.{streams_asked};
-ghost use Rattle.regatta_service.specs.Faults.{IfBegun, door_failures_in};
-ghost use Rattle.regatta_office.specs.Asked.{AtMostFrom, BeginsKept, PrintsAtMostTable, PrintsTable};
-ghost use Rattle.regatta_office.specs.Asked.{PrintsKeptTable, ServesFrom};
+ghost use Rattle.regatta_service.specs.Servings.{ServesEach};
+ghost use Rattle.regatta_office.specs.Asked.{AtMostFrom, BeginsKept};
+ghost use Rattle.regatta_office.specs.Asked.{KeptTablePrinted, ServesFrom, TablePrinted};
 
 use crate::complaint::Complaint;
 use crate::cut_note::note_cut;
@@ -106,10 +105,8 @@ where
     requires start { start.history ≡ N.history }
 
     // All that the table is made from is kept.
-    ensures printed { IfOk result (λ kept. PrintsKeptTable N.rules start.journal kept
-        (W.contents output.old) (W.contents output.new)) }
-    ensures at_most { PrintsAtMostTable N.rules start.journal (W.contents output.old)
-        (W.contents output.new) }
+    ensures printed { KeptTablePrinted N.rules start.journal (W.contents output.old)
+        (W.contents output.new) result }
 
     // A failed write is reported as such and as nothing else. Nothing of a journal that isn't kept is
     // printed.
@@ -181,22 +178,14 @@ where
     G: Gate + Sync,
     W: TableOutlet,
     requires start { start.history ≡ N.history }
-    // The passes of all seats come back.
-    ensures seats { IfOk result.back (λ back.
-        IsPermutation (map (λ p. p.seat) passes.items) (map (λ p. p.seat) back.items)) }
+    // The passes of all seats come back, and each client that the door gave was admitted once.
+    ensures served { ServesEach D.failures D.given D.closed passes.items door.old door.new
+        result.admitted result.back }
     ensures count { IfOk result.back (λ back. vec_len back ≡ vec_len passes) }
-    ensures door { D.failures door.new ≡ D.failures door.old + door_failures_in result.back }
-
-    // Each client that the door gave was admitted once, until the door closed.
-    ensures each { D.given door.new ≡ D.given door.old + result.admitted }
-    ensures closed { IfBegun result.back (D.closed door.new ≡ true) }
-    ensures unbegun { IsErrOf result.back ServeFault.NoMemory → door.new ≡ door.old }
 
     // The table is printed even if serving failed, if all of its journal is kept.
-    ensures printed { IfOk result.printed (λ kept. PrintsKeptTable N.rules start.journal kept
-        (W.contents output.old) (W.contents output.new)) }
-    ensures at_most { PrintsAtMostTable N.rules start.journal (W.contents output.old)
-        (W.contents output.new) }
+    ensures printed { KeptTablePrinted N.rules start.journal (W.contents output.old)
+        (W.contents output.new) result.printed }
     ensures well { OnOk result.printed (W.failures output.new ≡ W.failures output.old) }
 {
     let (back, admitted) = serve_kept(rt, alloc, office, keeper, door, passes, gate);
@@ -250,10 +239,8 @@ where
     R: Files + Net<Listener = TcpListener, Stream = TcpStream> + Threads + Wait + Clock + Sync,
     W: TableOutlet,
     requires start { start.history ≡ N.history }
-    ensures table { OnOk result
-        (PrintsTable N.rules start.journal (W.contents output.old) (W.contents output.new)) }
-    ensures at_most { PrintsAtMostTable N.rules start.journal (W.contents output.old)
-        (W.contents output.new) }
+    ensures printed { TablePrinted N.rules start.journal (W.contents output.old)
+        (W.contents output.new) result }
 
     // As many seats were served as there are.
     ensures seats { IfOk result (λ back. vec_len back ≡ vec_len passes) }
@@ -295,10 +282,8 @@ where
     requires seats { opened.seats ≡ options.now.clients }
     requires kept { history.history ≡ N.kept }
     requires nothing { history.journal ≡ [] }
-    ensures table { OnOk result
-        (PrintsTable N.rules opened.entries (W.contents output.old) (W.contents output.new)) }
-    ensures at_most { PrintsAtMostTable N.rules opened.entries (W.contents output.old)
-        (W.contents output.new) }
+    ensures printed { TablePrinted N.rules opened.entries (W.contents output.old)
+        (W.contents output.new) result }
 
     // As many seats were served as were asked for.
     ensures seats { IfOk result (λ count. count ≡ options.now.clients) }

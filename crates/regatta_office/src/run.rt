@@ -1,20 +1,15 @@
 //! A run, from an input stream to an output stream.
-ghost use Rattle.std.specs.Prelude.{◌≡◌, ◌≢◌, ◌+◌, ◌<◌, ◌≤◌, ℕ, List, length, take, None};
-ghost use Rattle.std.specs.Prelude.{OnOk, IfOk, IfErr, IfSome, IsErrOf, ◌⊎◌, false, true};
-ghost use Rattle.std.specs.Io.KnownBytes.{Appends, Consumes, Keeps};
-ghost use Rattle.regatta_streams.specs.Texts.{AppendsPrefix, GaveAtMost};
-ghost use Rattle.regatta_board.specs.Refusals.{limits, is_lawful};
+ghost use Rattle.std.specs.Prelude.{◌≡◌, ◌≢◌, ◌<◌, ◌≤◌, None, Some, OnOk, IfOk, IfSome, IsErrOf};
+ghost use Rattle.std.specs.Io.KnownBytes.{Appends, Keeps};
 ghost use Rattle.regatta_board.specs.Replays.{first_refused};
 ghost use Rattle.regatta_office.specs.declared.run.TheConstants.{INPUT_LIMIT};
-ghost use Rattle.regatta_office.specs.Coming.{Cuts, IsTooLong, IsWithin, ReadSome, Stops, Talked};
-ghost use Rattle.regatta_office.specs.Coming.{coming};
-ghost use Rattle.regatta_office.specs.Faults.{IsDeviceFault, IsRunFaultOf};
+ghost use Rattle.regatta_office.specs.Coming.{BreaksOff, IsWithin, Talked, coming, said_from};
+ghost use Rattle.regatta_office.specs.Faults.{AreCounted, AreRunCounted};
 ghost use Rattle.regatta_office.specs.Faults.{scribe_fault as scribe_fault_of};
 ghost use Rattle.regatta_office.specs.Faults.{start_fault as start_fault_of};
-ghost use Rattle.regatta_terms.specs.TextLines.{ended_lines, lines};
 ghost use Rattle.regatta_office.specs.Scribes.{point};
-ghost use Rattle.regatta_office.specs.Starts.{IsRunFault};
-ghost use Rattle.regatta_office.specs.Transcript.{WritesRun, has_quit, run_text, transcript};
+ghost use Rattle.regatta_office.specs.Starts.{IsStartOf};
+ghost use Rattle.regatta_office.specs.Transcript.{WritesRun, final_text, run_text};
 
 use crate::final_part::print_final;
 use crate::form::Form;
@@ -79,27 +74,17 @@ fn turn<R: Source, W: Sink>(
     buffer: &mut [u8; PIECE],
 ) -> Result<Option<usize>, RunFault>
     requires { most ≤ INPUT_LIMIT }
-    ensures talked { IfOk result (λ count. Talked (R.remaining input.old) (R.remaining input.new)
-        (W.contents output.old) (W.contents output.new) (point scribe.old) (point scribe.new)
-        count) }
+    ensures talked { IfOk result (Talked (R.remaining input.old) (R.remaining input.new)
+        (W.contents output.old) (W.contents output.new) (point scribe.old) (point scribe.new)) }
     ensures count { IfOk result (λ count. IfSome count (λ n. (0 < n) × (n ≤ most))) }
     ensures within { IfOk result (λ count. count ≡ None →
-        IfSome (R.remaining input.old) (IsWithin (point scribe.old) most)) }
-    ensures taken { GaveAtMost (most + 1) (R.remaining input.old) (R.remaining input.new) }
-    ensures well { OnOk result ((R.failures input.new ≡ R.failures input.old)
-        × (W.failures output.new ≡ W.failures output.old)) }
-    ensures fault { IfErr result (IsDeviceFault (R.failures input.old) (R.failures input.new)
-        (W.failures output.old) (W.failures output.new)) }
-    ensures read { IsErrOf result RunFault.Read → output.new ≡ output.old }
-    ensures stays { IsErrOf result RunFault.Read →
-        Keeps (R.remaining input.old) (R.remaining input.new) }
-    ensures cut { IsErrOf result RunFault.Write → IfSome (R.remaining input.old)
-        (Cuts (W.contents output.old) (W.contents output.new) (point scribe.old)) }
-    ensures stopped { IsErrOf result RunFault.NoMemory → IfSome (R.remaining input.old)
-        (Stops (W.contents output.old) (W.contents output.new) (point scribe.old)) }
-    ensures long { IsErrOf result RunFault.InputTooLong → IfSome (R.remaining input.old)
-        (λ text. IsTooLong (W.contents output.old) (W.contents output.new) (point scribe.old)
-        most text) }
+        IfSome (R.remaining input.old) (IsWithin (coming (point scribe.old)) most)) }
+    ensures breaks { BreaksOff (coming (point scribe.old)) None most (R.remaining input.old)
+        (R.remaining input.new) (W.contents output.old) (W.contents output.new) result }
+    ensures counted { AreCounted (R.failures input.old) (R.failures input.new)
+        (W.failures output.old) (W.failures output.new) result }
+    ensures read { IsErrOf result RunFault.Read → (output.new ≡ output.old)
+        × Keeps (R.remaining input.old) (R.remaining input.new) }
 {
     let piece = &mut buffer[..PIECE.min(most + 1)];
     let Ok(count) = input.read(piece) else {
@@ -128,30 +113,16 @@ fn answer_all<R: Source, W: Sink>(
     input: &mut R,
     output: &mut W,
 ) -> Result<(), RunFault>
-    ensures wrote { OnOk result (IfSome (R.remaining input.old) (λ text. Appends
-        (W.contents output.old) (W.contents output.new)
-        (coming true (point scribe.old) text).text)) }
-    ensures after { OnOk result (IfSome (R.remaining input.old) (λ text.
-        (point scribe.new).talk.journal ≡ (coming true (point scribe.old) text).journal)) }
-    ensures rules { OnOk result ((point scribe.new).rules ≡ (point scribe.old).rules) }
+    ensures talked { OnOk result (Talked (R.remaining input.old) (R.remaining input.new)
+        (W.contents output.old) (W.contents output.new) (point scribe.old) (point scribe.new)
+        None) }
     ensures within { OnOk result (IfSome (R.remaining input.old)
-        (IsWithin (point scribe.old) INPUT_LIMIT)) }
-    ensures taken { GaveAtMost (INPUT_LIMIT + 1) (R.remaining input.old)
-        (R.remaining input.new) }
-    ensures well { OnOk result ((R.failures input.new ≡ R.failures input.old)
-        × (W.failures output.new ≡ W.failures output.old)) }
-    ensures fault { IfErr result (IsDeviceFault (R.failures input.old) (R.failures input.new)
-        (W.failures output.old) (W.failures output.new)) }
-    ensures read { IsErrOf result RunFault.Read → ReadSome (R.remaining input.old)
-        (R.remaining input.new) (W.contents output.old) (W.contents output.new)
-        (λ given. (coming false (point scribe.old) given).text) }
-    ensures cut { IsErrOf result RunFault.Write → IfSome (R.remaining input.old)
-        (Cuts (W.contents output.old) (W.contents output.new) (point scribe.old)) }
-    ensures stopped { IsErrOf result RunFault.NoMemory → IfSome (R.remaining input.old)
-        (Stops (W.contents output.old) (W.contents output.new) (point scribe.old)) }
-    ensures long { IsErrOf result RunFault.InputTooLong → IfSome (R.remaining input.old)
-        (λ text. IsTooLong (W.contents output.old) (W.contents output.new) (point scribe.old)
-        INPUT_LIMIT text) }
+        (IsWithin (coming (point scribe.old)) INPUT_LIMIT)) }
+    ensures breaks { BreaksOff (coming (point scribe.old)) None INPUT_LIMIT
+        (R.remaining input.old) (R.remaining input.new) (W.contents output.old)
+        (W.contents output.new) result }
+    ensures counted { AreCounted (R.failures input.old) (R.failures input.new)
+        (W.failures output.old) (W.failures output.new) result }
 {
     let mut most = INPUT_LIMIT as usize;
     let mut buffer = [0; PIECE];
@@ -193,46 +164,26 @@ pub fn replay<R: Source, W: Sink>(
     ensures answered { OnOk result (IfSome (R.remaining input.old) (λ text. Appends
         (W.contents output.old) (W.contents output.new)
         (run_text rules.now start.now form text))) }
-    // A run that returns `Ok` has answered no more bytes than the limit. Every run reads at most
-    // one byte more.
-    ensures within { OnOk result (IfSome (R.remaining input.old) (λ text.
-        (length text ≤ INPUT_LIMIT) ⊎ (has_quit (ended_lines (take INPUT_LIMIT text)) ≡ true))) }
-    ensures taken { GaveAtMost (INPUT_LIMIT + 1) (R.remaining input.old)
-        (R.remaining input.new) }
+    // A run that returns `Ok` has answered no more bytes than the limit.
+    ensures within { OnOk result (IfSome (R.remaining input.old)
+        (IsWithin (said_from rules.now start.now) INPUT_LIMIT)) }
 
     // If an entry of the start is refused, the result is the first of them, or `NoMemory`. Nothing
     // is read or written then.
-    ensures lawful { OnOk result (is_lawful limits rules.now start.now ≡ true) }
-    ensures start { IfErr result (IsRunFault (first_refused rules.now start.now)) }
-    ensures unread { first_refused rules.now start.now ≢ None → input.new ≡ input.old }
-    ensures silent { first_refused rules.now start.now ≢ None → output.new ≡ output.old }
+    ensures start { IsStartOf rules.now start.now result }
+    ensures unmoved { first_refused rules.now start.now ≢ None →
+        (input.new ≡ input.old) × (output.new ≡ output.old) }
 
     // A failed device is reported as its own fault and as nothing else.
-    ensures well { OnOk result ((R.failures input.new ≡ R.failures input.old)
-        × (W.failures output.new ≡ W.failures output.old)) }
-    ensures fault { IfErr result (IsRunFaultOf (R.failures input.old) (R.failures input.new)
-        (W.failures output.old) (W.failures output.new)) }
+    ensures counted { AreRunCounted (R.failures input.old) (R.failures input.new)
+        (W.failures output.old) (W.failures output.new) result }
 
-    // A run that fails has written the replies to the lines that had ended, within the limit. After
-    // a failed write it is some first part of the whole text. Out of memory, it is the replies to
-    // some first lines.
-    ensures read { IsErrOf result RunFault.Read → (given : List ℕ)
-        × Consumes (R.remaining input.old) (R.remaining input.new) given
-        × Appends (W.contents output.old) (W.contents output.new)
-        (transcript rules.now start.now (ended_lines given)) }
-    ensures long { IsErrOf result RunFault.InputTooLong → IfSome (R.remaining input.old)
-        (λ text. (INPUT_LIMIT < length text)
-        × (has_quit (ended_lines (take INPUT_LIMIT text)) ≡ false)
-        × Appends (W.contents output.old) (W.contents output.new)
-        (transcript rules.now start.now (ended_lines (take INPUT_LIMIT text)))) }
-    ensures cut { IsErrOf result RunFault.Write → IfSome (R.remaining input.old)
-        (λ text. AppendsPrefix (W.contents output.old) (W.contents output.new)
-        (run_text rules.now start.now form text)) }
-    ensures stopped { IsErrOf result RunFault.NoMemory → IfSome (R.remaining input.old)
-        (λ text. ((n : ℕ) × Appends (W.contents output.old) (W.contents output.new)
-        (transcript rules.now start.now (ended_lines (take n text))))
-        ⊎ Appends (W.contents output.old) (W.contents output.new)
-        (transcript rules.now start.now (lines text))) }
+    // Every run reads at most one byte more than the limit. One that fails has written the replies to
+    // the lines that had ended, within the limit. After a failed write it is some first part of the
+    // whole text. Out of memory, it is the replies to some first lines.
+    ensures breaks { BreaksOff (said_from rules.now start.now)
+        (Some (final_text rules.now form)) INPUT_LIMIT (R.remaining input.old)
+        (R.remaining input.new) (W.contents output.old) (W.contents output.new) result }
 {
     let board = match replayed(alloc, rules, start) {
         Ok(board) => board,

@@ -1,15 +1,14 @@
 //! A run in progress: it takes pieces of a text, and writes the text for the lines that have ended.
-ghost use Rattle.std.specs.Prelude.{◌≡◌, ◌≢◌, ◌+◌, ◌++◌, ◌∷◌, [], true, false, ℕ, List, IfOk, OnOk};
-ghost use Rattle.std.specs.Prelude.{OnErr, IsErrOf, IfSome, Some, ◌<◌, ◌≤◌, length};
-ghost use Rattle.std.specs.Io.KnownBytes.{Appends};
-ghost use Rattle.regatta_streams.specs.Texts.{AppendsPrefix};
+ghost use Rattle.std.specs.Prelude.{◌≡◌, ◌+◌, ◌++◌, ◌∷◌, [], false, ℕ, List, IfOk, OnOk};
+ghost use Rattle.std.specs.Prelude.{OnErr, IsErrOf, Some, ◌<◌, length};
 ghost use Rattle.std.specs.List.{list_any};
 ghost use Rattle.regatta_terms.specs.Lines.{line_of};
 ghost use Rattle.regatta_terms.specs.TextLines.{is_line_end};
-ghost use Rattle.regatta_office.specs.Coming.{Broke, Cuts, Finished, Stops, Took, Went};
-ghost use Rattle.regatta_office.specs.Scribes.{point};
+ghost use Rattle.regatta_office.specs.Coming.{Broke, Cuts, Finished, IsPart, Stops, Took, Went};
+ghost use Rattle.regatta_office.specs.Faults.{failed_writes_in};
+ghost use Rattle.regatta_office.specs.Scribes.{point, point_after};
 ghost use Rattle.regatta_office.specs.Transcript.{is_quit as is_quit_of};
-ghost use Rattle.regatta_office.specs.Turns.{talk_after, text_after};
+ghost use Rattle.regatta_office.specs.Turns.{text_after};
 ghost use Rattle.regatta_terms.specs.declared.command.Role.TheVariants.{Scorer};
 
 use crate::answers::{answer, is_quit};
@@ -84,11 +83,8 @@ impl Scribe {
         ensures quit { IfOk result (λ quit. quit ≡ is_quit_of asked) }
         ensures due { OnOk result (self.new.due.items ≡ self.old.due.items
             ++ text_after (point self.old).rules (point self.old).talk asked) }
-        ensures after { OnOk result (point self.new ≡ record {
-          rules = (point self.old).rules;
-          talk = talk_after (point self.old).rules (point self.old).talk asked;
-          line = (point self.old).line;
-        }) }
+        ensures after { OnOk result (point self.new
+            ≡ point_after (point self.old) asked (point self.old).line) }
         ensures err { OnErr result (self.new.due.items ≡ self.old.due.items) }
     {
         answer(&mut self.board, &mut self.role, asked, &mut self.due)?;
@@ -102,12 +98,8 @@ impl Scribe {
         ensures due { OnOk result (self.new.due.items ≡ self.old.due.items
             ++ text_after (point self.old).rules (point self.old).talk
             (line_of (point self.old).line)) }
-        ensures after { OnOk result (point self.new ≡ record {
-          rules = (point self.old).rules;
-          talk = talk_after (point self.old).rules (point self.old).talk
-              (line_of (point self.old).line);
-          line = [];
-        }) }
+        ensures after { OnOk result (point self.new
+            ≡ point_after (point self.old) (line_of (point self.old).line) []) }
         ensures err { OnErr result (self.new.due.items ≡ self.old.due.items) }
     {
         let asked = asked_by(self.cutter.line());
@@ -137,8 +129,7 @@ impl Scribe {
     #[tactic(auto, using(crate::proofs::Gathering::none_ends, crate::proofs::Gathering::whole_line, crate::proofs::Gathering::took_piece, crate::proofs::Gathering::took_line, crate::proofs::Gathering::took_quit))]
     fn take(&mut self, piece: &[u8]) -> Result<Option<usize>, AllocError>
         requires { 0 < length piece.now }
-        ensures count { IfOk result (λ count. IfSome count
-            (λ n. (0 < n) × (n ≤ length piece.now))) }
+        ensures count { IfOk result (IsPart piece.now) }
         ensures took { IfOk result (Took (Some self.old.due.items) (Some self.new.due.items)
             piece.now (point self.old) (point self.new)) }
         ensures err { OnErr result (self.new.due.items ≡ self.old.due.items) }
@@ -163,8 +154,7 @@ impl Scribe {
     /// If an allocation fails. The text for the lines before it is still to be written.
     fn gather(&mut self, piece: &[u8]) -> Result<Option<usize>, AllocError>
         requires { 0 < length piece.now }
-        ensures count { IfOk result (λ count. IfSome count
-            (λ n. (0 < n) × (n ≤ length piece.now))) }
+        ensures count { IfOk result (IsPart piece.now) }
         ensures took { IfOk result (Took (Some []) (Some self.new.due.items) piece.now
             (point self.old) (point self.new)) }
         ensures broke { OnErr result (Broke (Some []) (Some self.new.due.items) piece.now
@@ -193,18 +183,13 @@ impl Scribe {
         output: &mut W,
     ) -> Result<Option<usize>, ScribeFault>
         requires { 0 < length piece.now }
-        ensures count { IfOk result (λ count. IfSome count
-            (λ n. (0 < n) × (n ≤ length piece.now))) }
+        ensures count { IfOk result (IsPart piece.now) }
         ensures took { IfOk result (Took (W.contents output.old) (W.contents output.new) piece.now
             (point self.old) (point self.new)) }
-        ensures well { OnOk result (W.failures output.new ≡ W.failures output.old) }
-        ensures write { IsErrOf result ScribeFault.Write →
-            W.failures output.new ≡ W.failures output.old + 1 }
+        ensures writes { W.failures output.new ≡ W.failures output.old + failed_writes_in result }
         ensures cut { IsErrOf result ScribeFault.Write → (rest : List ℕ) →
             Cuts (W.contents output.old) (W.contents output.new) (point self.old)
             (piece.now ++ rest) }
-        ensures memory { IsErrOf result ScribeFault.NoMemory →
-            W.failures output.new ≡ W.failures output.old }
         ensures broke { IsErrOf result ScribeFault.NoMemory →
             Broke (W.contents output.old) (W.contents output.new) piece.now (point self.old) }
     {
@@ -226,14 +211,10 @@ impl Scribe {
     ) -> Result<bool, ScribeFault>
         ensures went { IfOk result (λ quit. Went (W.contents output.old) (W.contents output.new)
             piece.now (point self.old) (point self.new) quit) }
-        ensures well { OnOk result (W.failures output.new ≡ W.failures output.old) }
-        ensures write { IsErrOf result ScribeFault.Write →
-            W.failures output.new ≡ W.failures output.old + 1 }
+        ensures writes { W.failures output.new ≡ W.failures output.old + failed_writes_in result }
         ensures cut { IsErrOf result ScribeFault.Write → (rest : List ℕ) →
             Cuts (W.contents output.old) (W.contents output.new) (point self.old)
             (piece.now ++ rest) }
-        ensures memory { IsErrOf result ScribeFault.NoMemory →
-            W.failures output.new ≡ W.failures output.old }
         ensures stopped { IsErrOf result ScribeFault.NoMemory → (rest : List ℕ) →
             Stops (W.contents output.old) (W.contents output.new) (point self.old)
             (piece.now ++ rest) }
@@ -253,13 +234,9 @@ impl Scribe {
     pub(crate) fn finish<W: Sink>(&mut self, output: &mut W) -> Result<(), ScribeFault>
         ensures finished { OnOk result (Finished (W.contents output.old) (W.contents output.new)
             (point self.old) (point self.new)) }
-        ensures well { OnOk result (W.failures output.new ≡ W.failures output.old) }
-        ensures write { IsErrOf result ScribeFault.Write →
-            W.failures output.new ≡ W.failures output.old + 1 }
+        ensures writes { W.failures output.new ≡ W.failures output.old + failed_writes_in result }
         ensures cut { IsErrOf result ScribeFault.Write →
             Cuts (W.contents output.old) (W.contents output.new) (point self.old) [] }
-        ensures memory { IsErrOf result ScribeFault.NoMemory →
-            W.failures output.new ≡ W.failures output.old }
         ensures silent { IsErrOf result ScribeFault.NoMemory → output.new ≡ output.old }
     {
         if self.cutter.line().is_empty() {

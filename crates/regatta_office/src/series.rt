@@ -1,9 +1,7 @@
 //! What a series starts with.
-ghost use Rattle.std.specs.Prelude.{◌≡◌, Ok, IfOk};
-ghost use Rattle.std.specs.Option.{option_copied};
+ghost use Rattle.std.specs.Prelude.{IfOk};
 ghost use mathlib.Core.List.{IsPrefix};
-ghost use Rattle.regatta_terms.specs.Rules.{rules_of_texts};
-ghost use Rattle.regatta_office.specs.Asked.{AreSailsAt, Begins, BeginsKept, IsJournalAt};
+ghost use Rattle.regatta_office.specs.Asked.{ArePartsOf, Begins, BeginsKept};
 ghost use Rattle.regatta_office.specs.Asked.{IsJournalOfSome};
 
 use crate::complaint::Complaint;
@@ -39,10 +37,7 @@ pub(crate) fn parts_of<H: Files + AllocGlobal>(
     rt: &H,
     series: &SeriesOptions<'_>,
 ) -> Result<Parts, Complaint>
-    ensures rules { IfOk result (λ parts. rules_of_texts series.now.absent series.now.scp
-        series.now.exclude series.now.handicap ≡ Ok parts.rules) }
-    ensures journal { IfOk result (λ parts. IsJournalAt series.now.journal parts.journal) }
-    ensures sails { IfOk result (λ parts. AreSailsAt series.now.entries parts.sails) }
+    ensures { IfOk result (λ parts. ArePartsOf series.now parts.rules parts.journal parts.sails) }
 {
     let rules = Rules::read(series.absent, series.scp, series.exclude, series.handicap)?;
     let journal = journal_at(rt, series.journal)?;
@@ -86,10 +81,7 @@ pub(crate) fn kept_beginning_of<H: Files + AllocGlobal>(
     parts: Parts,
     kept: &[Entry],
 ) -> Result<Beginning, Complaint>
-    requires rules { rules_of_texts series.now.absent series.now.scp series.now.exclude
-        series.now.handicap ≡ Ok parts.rules }
-    requires journal { IsJournalAt series.now.journal parts.journal }
-    requires sails { AreSailsAt series.now.entries parts.sails }
+    requires parts { ArePartsOf series.now parts.rules parts.journal parts.sails }
     requires some { IsJournalOfSome kept.now }
     ensures begins { IfOk result (λ begin. BeginsKept series.now begin.rules begin.start) }
 

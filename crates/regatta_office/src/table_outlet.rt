@@ -1,11 +1,6 @@
 //! Where the table of a kept office goes.
-ghost use Rattle.std.specs.Prelude.{◌≡◌, ◌+◌, OnOk, IsErrOf};
-ghost use Rattle.std.specs.Io.KnownBytes.{Appends};
 ghost use mathlib.Core.List.{IsPrefix};
-ghost use Rattle.regatta_streams.specs.Texts.{AppendsPrefix};
-ghost use Rattle.regatta_scores.specs.AppendixA.{IsAppendixA};
-ghost use Rattle.regatta_scores.specs.Standing.{standing};
-ghost use Rattle.regatta_office.specs.Transcript.{final_text};
+ghost use Rattle.regatta_office.specs.FinalParts.{PrintsFinal};
 ghost use Rattle.regatta_office.specs.declared.form.Form.TheVariants.{Table};
 
 use crate::final_part::print_final;
@@ -32,16 +27,8 @@ pub(crate) trait TableOutlet: Device {
         kept: &Kept<N>,
     ) -> Result<(), ScribeFault>
         requires kept { IsPrefix board.now.entries kept.now }
-        ensures appendix_a { IsAppendixA board.now.rules board.now.entries
-            (standing board.now.rules board.now.entries) }
-        ensures wrote { OnOk result (Appends (Self.contents self.old) (Self.contents self.new)
-            (final_text board.now.rules Table board.now.entries)) }
-        ensures well { OnOk result (Self.failures self.new ≡ Self.failures self.old) }
-        ensures write { IsErrOf result ScribeFault.Write →
-            Self.failures self.new ≡ Self.failures self.old + 1 }
-        ensures cut { IsErrOf result ScribeFault.Write → AppendsPrefix (Self.contents self.old)
-            (Self.contents self.new) (final_text board.now.rules Table board.now.entries) }
-        ensures silent { IsErrOf result ScribeFault.NoMemory → self.new ≡ self.old };
+        ensures { PrintsFinal Self.failures Self.contents board.now.rules Table board.now.entries
+            self.old self.new result };
 }
 
 impl<W: Sink> TableOutlet for W {

@@ -5,7 +5,8 @@ ghost use Rattle.regatta_terms.specs.declared.limits.TheConstants.{MAX_BOATS, MA
 ghost use Rattle.regatta_scores.specs.Journal.{holds_nothing};
 ghost use Rattle.regatta_scores.specs.Sheet.{boats, empty_sheet, nothing_held, time_of};
 ghost use Rattle.regatta_scores.specs.Order.{stands_in};
-ghost use Rattle.regatta_scores.specs.SheetFacts.{IsSheet, Allows};
+ghost use Rattle.regatta_scores.specs.SheetFacts.{IsSheet, IsWhole, Allows};
+ghost use Rattle.regatta_scores.specs.declared.sheet.Change.TheVariants as add;
 ghost use Rattle.regatta_scores.specs.Changes.{after};
 
 use crate::boat_times::BoatTimes;
@@ -164,9 +165,48 @@ impl RaceSheet {
         ensures { IfOk result (λ sheet. sheet ≡ after self.now change) }
     {
         let alloc = *self.held.allocator();
-        let order = self.order_after(alloc, &change)?;
-        let held = self.held_after(alloc, &change)?;
-        let seconds = self.seconds_after(alloc, &change)?;
+        self.changed(alloc, change)
+    }
+
+    fn changed(&self, alloc: Global, change: Change) -> Result<RaceSheet, AllocError>
+        requires { Allows self.now change }
+        ensures { IfOk result (λ sheet. sheet ≡ after self.now change) }
+    {
+        match change {
+            Change::AddBoat => self.with_boat(alloc),
+            Change::Last { boat } => {
+                let order = orders::with_last(alloc, &self.order, boat)?;
+                self.with_order(alloc, order)
+            }
+            Change::Join { boat, other } => {
+                let order = orders::joined(alloc, &self.order, boat, other)?;
+                self.with_order(alloc, order)
+            }
+            Change::Ahead { boat, other } => {
+                let order = orders::with_ahead(alloc, &self.order, boat, other)?;
+                self.with_order(alloc, order)
+            }
+            Change::Timed { boat, seconds } => {
+                let order = timed::with_time(alloc, &self.order, &self.seconds, boat, seconds)?;
+                let times = self.seconds.with_time(alloc, boat, Some(seconds))?;
+                self.with_places(alloc, order, times)
+            }
+            Change::Out { boat } => {
+                let order = orders::without(alloc, &self.order, boat)?;
+                let times = self.seconds.without(alloc, boat)?;
+                self.with_places(alloc, order, times)
+            }
+            Change::Hold { boat, held } => self.with_held(alloc, boat, held),
+        }
+    }
+
+    fn with_boat(&self, alloc: Global) -> Result<RaceSheet, AllocError>
+        requires { boats self.now < MAX_BOATS }
+        ensures { IfOk result (λ sheet. sheet ≡ after self.now add.AddBoat) }
+    {
+        let order = self.order.copy(alloc)?;
+        let held = held_with_boat(alloc, &self.held)?;
+        let seconds = self.seconds.with_boat(alloc)?;
         Ok(RaceSheet {
             order,
             held,
@@ -174,50 +214,51 @@ impl RaceSheet {
         })
     }
 
-    fn order_after(&self, alloc: Global, change: &Change) -> Result<Groups, AllocError>
-        requires { Allows self.now change.now }
-        ensures { IfOk result (λ order. order ≡ (after self.now change.now).order) }
+    fn with_held(&self, alloc: Global, boat: u16, one: Held) -> Result<RaceSheet, AllocError>
+        requires { Allows self.now (add.Hold boat one) }
+        ensures { IfOk result (λ sheet. sheet ≡ after self.now (add.Hold boat one)) }
     {
-        match *change {
-            Change::Last { boat } => orders::with_last(alloc, &self.order, boat),
-            Change::Join { boat, other } => orders::joined(alloc, &self.order, boat, other),
-            Change::Ahead { boat, other } => orders::with_ahead(alloc, &self.order, boat, other),
-            Change::Timed { boat, seconds } => {
-                timed::with_time(alloc, &self.order, &self.seconds, boat, seconds)
-            }
-            Change::Out { boat } => orders::without(alloc, &self.order, boat),
-            Change::AddBoat | Change::Hold { .. } => self.order.copy(alloc),
-        }
+        let order = self.order.copy(alloc)?;
+        let held = held_with_change(alloc, &self.held, boat, one)?;
+        let seconds = self.seconds.copy(alloc)?;
+        Ok(RaceSheet {
+            order,
+            held,
+            seconds,
+        })
     }
 
-    fn held_after(&self, alloc: Global, change: &Change) -> Result<Vec<Held>, AllocError>
-        requires { Allows self.now change.now }
-        ensures { IfOk result (λ held. held.items ≡ (after self.now change.now).held) }
+    fn with_order(&self, alloc: Global, order: Groups) -> Result<RaceSheet, AllocError>
+        requires { IsWhole order self.now.held self.now.seconds }
+        ensures { IfOk result (λ sheet. sheet ≡ record {
+          order = order;
+          held = self.now.held;
+          seconds = self.now.seconds;
+        }) }
     {
-        match *change {
-            Change::AddBoat => held_with_boat(alloc, &self.held),
-            Change::Hold { boat, held } => held_with_change(alloc, &self.held, boat, held),
-            Change::Last { .. }
-            | Change::Join { .. }
-            | Change::Ahead { .. }
-            | Change::Timed { .. }
-            | Change::Out { .. } => Vec::from_slice(alloc, &self.held),
-        }
+        let times = self.seconds.copy(alloc)?;
+        let sheet = self.with_places(alloc, order, times)?;
+        Ok(sheet)
     }
 
-    fn seconds_after(&self, alloc: Global, change: &Change) -> Result<BoatTimes, AllocError>
-        requires { Allows self.now change.now }
-        ensures { IfOk result (λ seconds. seconds ≡ (after self.now change.now).seconds) }
+    fn with_places(
+        &self,
+        alloc: Global,
+        order: Groups,
+        times: BoatTimes,
+    ) -> Result<RaceSheet, AllocError>
+        requires { IsWhole order self.now.held times }
+        ensures { IfOk result (λ sheet. sheet ≡ record {
+          order = order;
+          held = self.now.held;
+          seconds = times;
+        }) }
     {
-        match *change {
-            Change::AddBoat => self.seconds.with_boat(alloc),
-            Change::Timed { boat, seconds } => self.seconds.with_time(alloc, boat, Some(seconds)),
-            Change::Out { boat } => self.seconds.without(alloc, boat),
-            Change::Last { .. }
-            | Change::Join { .. }
-            | Change::Ahead { .. }
-            | Change::Hold { .. } => self.seconds.copy(alloc),
-        }
+        Ok(RaceSheet {
+            order,
+            held: Vec::from_slice(alloc, &self.held)?,
+            seconds: times,
+        })
     }
 
     pub(crate) fn order(&self) -> &Groups

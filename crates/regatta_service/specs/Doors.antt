@@ -1,6 +1,6 @@
 -- What contracts see of a door over a socket.
 use Rattle.std.specs.Prelude.{ℕ, Bool, true, false, ◌-◌, Option, Some, None, Result, Ok, Err, nat_eq}
-use Rattle.std.specs.Prelude.{if◌then◌else◌}
+use Rattle.std.specs.Prelude.{if◌then◌else◌, ◌≡◌, ◌+◌, OnErr, OnOk}
 
 -- the number of streams that the door still gives, `None` for no limit, the number of its calls that
 -- have failed, and the number of streams that it has given
@@ -29,6 +29,25 @@ is_last (Err _) = true
 abbrev pub is_shut : Option ℕ → Bool
 is_shut (Some left) = nat_eq left 0
 is_shut None = false
+
+-- a door over a socket as a door
+abbrev pub failures_of : DoorParts → ℕ
+failures_of door = door.failures
+
+abbrev pub given_of : DoorParts → ℕ
+given_of door = door.given
+
+abbrev pub is_closed : DoorParts → Bool
+is_closed door = is_shut door.left
+
+-- a call of a door. A failed one was counted. Each stream that came is returned: one at a time, and none
+-- is lost. Only a door that returns no stream is known to be closed
+pub record GivesNext {D S E : Type 0} (failures given : D → ℕ) (closed : D → Bool) (old new : D)
+    (result : Result (Option S) E) : Type 0 where
+  pub well : OnOk result (failures new ≡ failures old)
+  pub failed : OnErr result (failures new ≡ failures old + 1)
+  pub one : given new ≡ given old + streams_in result
+  pub last : is_last result ≡ true → closed new ≡ true
 
 -- the number of streams for a number of sessions: 0 sessions is no limit
 abbrev pub streams_asked : ℕ → Option ℕ

@@ -7,3 +7,4 @@ pub mod Lines
 pub mod LinesTaken
 pub mod Partings
 pub mod Pools
+pub mod Servings

@@ -1,9 +1,9 @@
 //! Where clients come from.
-ghost use Rattle.std.specs.Prelude.{◌≡◌, ◌≢◌, ◌+◌, ◌<◌, ◌↔◌, ℕ, Bool, true, Ok, Some, None, length};
+ghost use Rattle.std.specs.Prelude.{◌≡◌, ◌≢◌, ◌+◌, ◌<◌, ◌↔◌, ℕ, Bool, Ok, Some, None, length};
 ghost use Rattle.std.specs.Prelude.{IfOk, OnOk, OnErr, OnSome};
 ghost use Rattle.regatta_service.specs.Comings.{clients_in};
-ghost use Rattle.regatta_service.specs.Doors.{streams_asked, one_fewer, streams_in};
-ghost use Rattle.regatta_service.specs.Doors.{is_last, is_shut, one_if_some};
+ghost use Rattle.regatta_service.specs.Doors.{GivesNext, streams_asked, one_fewer};
+ghost use Rattle.regatta_service.specs.Doors.{one_if_some};
 
 use crate::connection::{Connection, connection_of, refuse};
 use crate::count::Count;
@@ -41,14 +41,7 @@ pub trait Door: Device {
     ///
     /// If the door fails, for example since its office has stopped. The failure is counted.
     fn next<R: Wait + Clock>(&mut self, rt: &R) -> Result<Option<Self::Stream>, DoorFault>
-        ensures well { OnOk result (Self.failures self.new ≡ Self.failures self.old) }
-        ensures failed { OnErr result (Self.failures self.new ≡ Self.failures self.old + 1) }
-
-        // Each stream that came is returned: one at a time, and none is lost.
-        ensures one { Self.given self.new ≡ Self.given self.old + streams_in result }
-
-        // Only a door that returns no stream is known to be closed.
-        ensures last { is_last result ≡ true → Self.closed self.new ≡ true };
+        ensures { GivesNext Self.failures Self.given Self.closed self.old self.new result };
 }
 
 /// How long a door waits before it tries a failed `accept` again, in milliseconds.
@@ -311,13 +304,17 @@ impl SocketDoor {
 }
 
 impl Device for SocketDoor {
-    ghost failures = { λ door. door.failures };
+    ghost use Rattle.regatta_service.specs.Doors.{failures_of};
+
+    ghost failures = { failures_of };
 }
 
 impl Door for SocketDoor {
-    ghost given = { λ door. door.given };
+    ghost use Rattle.regatta_service.specs.Doors.{failures_of, given_of, is_closed};
 
-    ghost closed = { λ door. is_shut door.left };
+    ghost given = { given_of };
+
+    ghost closed = { is_closed };
 
     type Stream = Foreign<Connection<UnixStream>>;
 
@@ -325,10 +322,7 @@ impl Door for SocketDoor {
         &mut self,
         rt: &R,
     ) -> Result<Option<Foreign<Connection<UnixStream>>>, DoorFault>
-        ensures well { OnOk result (self.new.failures ≡ self.old.failures) }
-        ensures failed { OnErr result (self.new.failures ≡ self.old.failures + 1) }
-        ensures one { self.new.given ≡ self.old.given + streams_in result }
-        ensures last { is_last result ≡ true → is_shut self.new.left ≡ true }
+        ensures next { GivesNext failures_of given_of is_closed self.old self.new result }
 
         // The result is `None` exactly when no stream is left to give.
         ensures closed { (result ≡ Ok None) ↔ (self.old.left ≡ Some 0) }

@@ -3,6 +3,7 @@ ghost use Rattle.std.specs.Prelude.{◌≡◌, ◌+◌, map, true, IfErr, IfOk, 
 ghost use Rattle.std.specs.List.Sorted.{IsPermutation, IsSorted};
 ghost use Rattle.std.specs.Ordering.{nat_cmp};
 ghost use Rattle.regatta_service.specs.Faults.{EndsAdmission, IfBegun, door_failures_in};
+ghost use Rattle.regatta_service.specs.Servings.{AskedDoor, SeatsBack, ServesEach};
 
 use crate::door::Door;
 use crate::gate::Gate;
@@ -154,13 +155,8 @@ where
     K: Keeping<N> + Sync,
     D: Door,
     G: Gate + Sync,
-    ensures seats { IfOk result.0 (λ back.
-        IsPermutation (map (λ p. p.seat) passes.items) (map (λ p. p.seat) back.items)) }
-    ensures sorted { IfOk result.0 (λ back. IsSorted nat_cmp (map (λ p. p.seat) back.items)) }
-    ensures door { D.failures door.new ≡ D.failures door.old + door_failures_in result.0 }
-    ensures each { D.given door.new ≡ D.given door.old + result.1 }
-    ensures closed { IfBegun result.0 (D.closed door.new ≡ true) }
-    ensures unbegun { IsErrOf result.0 ServeFault.NoMemory → door.new ≡ door.old }
+    ensures served { ServesEach D.failures D.given D.closed passes.items door.old door.new result.1
+        result.0 }
     ensures stopped { IsErrOf result.0 ServeFault.Keep → K.stops ≡ true }
 {
     let Ok(seats) = seats_of(alloc, &passes) else {
@@ -225,17 +221,8 @@ where
     R: Threads + Wait + Clock + Sync,
     D: Door,
     G: Gate + Sync,
-    ensures seats { IfOk result.0 (λ back.
-        IsPermutation (map (λ p. p.seat) passes.items) (map (λ p. p.seat) back.items)) }
-    ensures sorted { IfOk result.0 (λ back. IsSorted nat_cmp (map (λ p. p.seat) back.items)) }
-    ensures door { D.failures door.new ≡ D.failures door.old + door_failures_in result.0 }
-
-    // Each client that the door gave was admitted once.
-    ensures each { D.given door.new ≡ D.given door.old + result.1 }
-
-    // The door was asked for clients until it closed, unless memory ran out before.
-    ensures closed { IfBegun result.0 (D.closed door.new ≡ true) }
-    ensures unbegun { IsErrOf result.0 ServeFault.NoMemory → door.new ≡ door.old }
+    ensures served { ServesEach D.failures D.given D.closed passes.items door.old door.new result.1
+        result.0 }
     ensures going { IsErrOf result.0 ServeFault.Keep → ⊥ }
 {
     let served = serve_over(rt, alloc, office, &Uncovered, door, passes, gate);
@@ -269,17 +256,8 @@ where
     R: Threads + Wait + Clock + Sync,
     D: Door,
     G: Gate + Sync,
-    ensures seats { IfOk result.0 (λ back.
-        IsPermutation (map (λ p. p.seat) passes.items) (map (λ p. p.seat) back.items)) }
-    ensures sorted { IfOk result.0 (λ back. IsSorted nat_cmp (map (λ p. p.seat) back.items)) }
-    ensures door { D.failures door.new ≡ D.failures door.old + door_failures_in result.0 }
-
-    // Each client that the door gave was admitted once.
-    ensures each { D.given door.new ≡ D.given door.old + result.1 }
-
-    // The door was asked for clients until it closed, unless memory ran out before or the log failed.
-    ensures closed { IfBegun result.0 (D.closed door.new ≡ true) }
-    ensures unbegun { IsErrOf result.0 ServeFault.NoMemory → door.new ≡ door.old }
+    ensures served { ServesEach D.failures D.given D.closed passes.items door.old door.new result.1
+        result.0 }
 {
     let keeping = ByKeeper { keeper };
     let served = serve_over(rt, alloc, office, &keeping, door, passes, gate);
@@ -309,17 +287,8 @@ where
     R: Threads + Wait + Clock + Sync,
     D: Door,
     G: Gate + Sync,
-    // The seats given come back, each as often as it was given, the lowest first.
-    ensures seats { IfOk result (λ back.
-        IsPermutation (map (λ p. p.seat) passes.items) (map (λ p. p.seat) back.items)) }
-    ensures sorted { IfOk result (λ back. IsSorted nat_cmp (map (λ p. p.seat) back.items)) }
-
-    // A failed call of the door ends serving and is reported as `Door`; otherwise no call failed.
-    ensures door { D.failures door.new ≡ D.failures door.old + door_failures_in result }
-
-    // The door was asked for clients until it closed, unless memory ran out before.
-    ensures closed { IfBegun result (D.closed door.new ≡ true) }
-    ensures unbegun { IsErrOf result ServeFault.NoMemory → door.new ≡ door.old }
+    ensures seats { IfOk result (λ back. SeatsBack passes.items back.items) }
+    ensures door { AskedDoor D.failures D.closed door.old door.new result }
     ensures going { IsErrOf result ServeFault.Keep → ⊥ }
 {
     let (back, _) = serve_each(rt, alloc, office, door, passes, gate);

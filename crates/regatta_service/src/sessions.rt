@@ -1,14 +1,12 @@
 //! The session of one client, whose lines are answered one after another.
-ghost use Rattle.std.specs.Prelude.{◌≡◌, ◌≢◌, ◌+◌, [], true, false, Ok, Err, None, IfErr, IfSome};
+ghost use Rattle.std.specs.Prelude.{◌≡◌, ◌≢◌, ◌+◌, [], false, Ok, Err, None, IfErr, IfSome};
 ghost use Rattle.std.specs.Prelude.{IsSome, OnOk};
-ghost use Rattle.std.specs.Io.KnownBytes.{IsAtEnd, Keeps};
-ghost use Rattle.regatta_scores.specs.Journal.{Journal};
 ghost use Rattle.regatta_talk.specs.Replies.{is_for_desk, next_after, role_after};
-ghost use Rattle.regatta_keeper.specs.Sealing.{Needs};
-ghost use Rattle.regatta_service.specs.Ends.{failed_reads_in, failures_in, failures_so_far};
-ghost use Rattle.regatta_service.specs.Lines.{DeskAnswers, Prepared};
-ghost use Rattle.regatta_service.specs.LinesTaken.{DidLine, Talked, Took, WentOn, asked_from, asks};
-ghost use Rattle.regatta_service.specs.LinesTaken.{point};
+ghost use Rattle.regatta_talk.specs.declared.asked.AskedLine.TheVariants.{Desk};
+ghost use Rattle.regatta_service.specs.Ends.{ReadsNothing, SealsRefused, failures_so_far};
+ghost use Rattle.regatta_service.specs.Lines.{Prepared};
+ghost use Rattle.regatta_service.specs.LinesTaken.{DidLine, Took, WentOn, asked_from, asks, point};
+ghost use Rattle.regatta_service.specs.Partings.{IsServed, IsSession};
 
 use crate::gate::Gate;
 use regatta_desk::{Office, OfficeName, Pass};
@@ -82,9 +80,8 @@ impl<N: OfficeName, H: Wait + Drop, G: Gate> Talk<'_, N, H, G> {
         covers: &C,
         line: DeskLine,
     ) -> Option<Sealed<N, C>>
-        ensures answered { IfSome result (λ reply. (made_from : Journal)
-            × DeskAnswers N.rules line self.now.role pass.old pass.new [] reply.text made_from
-            × Needs (C.book covers.now) reply.needs made_from) }
+        ensures answered { IfSome result (λ reply. Prepared N.rules (Desk line) self.now.role pass.old
+            pass.new reply.text reply.needs (C.book covers.now)) }
         ensures unanswered { result ≡ None → pass.new ≡ pass.old }
     {
         let mut guard = self.office.desk(rt);
@@ -158,13 +155,8 @@ impl<N: OfficeName, H: Wait + Drop, G: Gate> Talk<'_, N, H, G> {
             (point self.new.role pass.new (S.contents stream.new) (C.book covers.new)) }
         ensures cut { OnOk result (self.new.cutter ≡ []) }
 
-        // A reply stays sealed exactly if it was refused a cover.
-        ensures refused { result ≡ Err End.NotKept → C.refused covers.new ≡ true }
-        ensures covered { result ≢ Err End.NotKept → C.refused covers.new ≡ C.refused covers.old }
-
-        // No read is made here, and what is still to be read stays.
-        ensures no_read { S.failed_reads stream.new ≡ S.failed_reads stream.old }
-        ensures keeps { Keeps (S.remaining stream.old) (S.remaining stream.new) }
+        ensures refused { SealsRefused C.refused covers.old covers.new result }
+        ensures unread { ReadsNothing S.remaining S.failed_reads stream.old stream.new }
     {
         self.line = self.line.saturating_add(1);
         if !self.gate.before(pass.seat(), self.line) {
@@ -222,13 +214,8 @@ impl<N: OfficeName, H: Wait + Drop, G: Gate> Talk<'_, N, H, G> {
         ensures at_line { (result ≢ Err End.Closed) × (result ≢ Err End.ReadFault)
             × (result ≢ Err End.NoMemory) }
 
-        // A reply stays sealed exactly if it was refused a cover.
-        ensures refused { result ≡ Err End.NotKept → C.refused covers.new ≡ true }
-        ensures covered { result ≢ Err End.NotKept → C.refused covers.new ≡ C.refused covers.old }
-
-        // No read is made here, and what is still to be read stays.
-        ensures no_read { S.failed_reads stream.new ≡ S.failed_reads stream.old }
-        ensures keeps { Keeps (S.remaining stream.old) (S.remaining stream.new) }
+        ensures refused { SealsRefused C.refused covers.old covers.new result }
+        ensures unread { ReadsNothing S.remaining S.failed_reads stream.old stream.new }
     {
         let mut room = room;
         for byte in piece {
@@ -260,19 +247,10 @@ where
     C: Covers<N>,
     S: Outlet<C>,
     G: Gate,
-    ensures failures { S.failures stream.new ≡ S.failures stream.old + failures_in result }
-    ensures reads { S.failed_reads stream.new
-        ≡ S.failed_reads stream.old + failed_reads_in result }
-    ensures closed { result ≡ End.Closed → IsAtEnd (S.remaining stream.new) }
-    ensures talked { Talked N.rules result (S.remaining stream.old) (S.remaining stream.new)
-        pass.old pass.new (S.contents stream.old) (S.contents stream.new) (C.book covers.old)
-        (C.book covers.new) }
-    ensures refused { result ≡ End.NotKept → C.refused covers.new ≡ true }
+    ensures served { IsServed N.rules S.remaining S.contents S.failures S.failed_reads stream.old
+        stream.new pass.old pass.new (C.book covers.old) (C.book covers.new)
+        (C.refused covers.new) result }
     ensures covered { result ≢ End.NotKept → C.refused covers.new ≡ C.refused covers.old }
-    ensures seat { pass.new.seat ≡ pass.old.seat }
-
-    // Memory doesn't run out.
-    ensures room_left { result ≢ End.NoMemory }
 {
     let mut talk = Talk {
         office,
@@ -316,24 +294,14 @@ where
     C: Covers<N>,
     S: Outlet<C>,
     G: Gate,
-    // A failed call of the stream ends the session and is reported as what it is.
-    ensures failures { S.failures stream.new ≡ S.failures stream.old + failures_in result }
-    ensures reads { S.failed_reads stream.new
-        ≡ S.failed_reads stream.old + failed_reads_in result }
-    ensures closed { result ≡ End.Closed → IsAtEnd (S.remaining stream.new) }
-
     // The lines that ended in the bytes that the stream gave were answered as the session's end
     // says, starting in the scorer's role, and exactly their replies were written. If there is a
     // book of what is kept, it has for each reply a journal that begins with the one that the reply
     // was made from.
-    ensures talked { Talked N.rules result (S.remaining stream.old) (S.remaining stream.new)
-        pass.old pass.new (S.contents stream.old) (S.contents stream.new) (C.book covers.old)
-        (C.book covers.new) }
-
-    // A reply stays sealed exactly if it was refused a cover.
-    ensures refused { result ≡ End.NotKept → C.refused covers.new ≡ true }
+    ensures session { IsSession N.rules S.remaining S.contents S.failures S.failed_reads stream.old
+        stream.new pass.old pass.new (C.book covers.old) (C.book covers.new)
+        (C.refused covers.new) result }
     ensures covered { result ≢ End.NotKept → C.refused covers.new ≡ C.refused covers.old }
-    ensures seat { pass.new.seat ≡ pass.old.seat }
 
     // Without memory for replies nothing is done.
     ensures no_memory { result ≡ End.NoMemory → (stream.new ≡ stream.old) × (pass.new ≡ pass.old) }
@@ -356,19 +324,9 @@ pub fn session<N: OfficeName, H: Wait + Drop, R: Wait, S: Source + Sink, G: Gate
     gate: &G,
 ) -> End
     // A failed call of the stream ends the session and is reported as what it is, a read as a read
-    // and a write as a write. Otherwise no call failed.
-    ensures failures { S.failures stream.new ≡ S.failures stream.old + failures_in result }
-    ensures reads { S.failed_reads stream.new
-        ≡ S.failed_reads stream.old + failed_reads_in result }
-    ensures closed { result ≡ End.Closed → IsAtEnd (S.remaining stream.new) }
-
-    // The lines that ended in the bytes that the stream gave were answered as the session's end
-    // says, starting in the scorer's role, and exactly their replies were written.
-    ensures talked { Talked N.rules result (S.remaining stream.old) (S.remaining stream.new)
-        pass.old pass.new (S.contents stream.old) (S.contents stream.new) None None }
-    ensures seat { pass.new.seat ≡ pass.old.seat }
-
-    // No reply stays sealed.
+    // and a write as a write. Otherwise no call failed. No reply stays sealed.
+    ensures session { IsSession N.rules S.remaining S.contents S.failures S.failed_reads stream.old
+        stream.new pass.old pass.new None None false result }
     ensures said { result ≢ End.NotKept }
 
     // Without memory for replies nothing is done.

@@ -1,5 +1,5 @@
 -- What a contract sees of a `Tape`, and what a read or a write changes.
-use Rattle.std.specs.Prelude.{ℕ, ◌+◌, ◌-◌, List, ◌++◌, length, drop, min}
+use Rattle.std.specs.Prelude.{ℕ, ◌+◌, ◌-◌, List, ◌++◌, Option, Some, length, drop, min}
 
 pub record TapeParts : Type 0 where
   -- the input not given yet, and the bytes taken
@@ -13,6 +13,20 @@ pub record TapeParts : Type 0 where
   -- how many of its calls have failed, and of its reads
   pub failures : ℕ
   pub failed_reads : ℕ
+
+-- a tape as a stream: how many of its calls and of its reads have failed, the bytes that it still gives
+-- and those that it took
+abbrev pub failed_calls : TapeParts → ℕ
+failed_calls tape = tape.failures
+
+abbrev pub failed_reads : TapeParts → ℕ
+failed_reads tape = tape.failed_reads
+
+abbrev pub rest_of : TapeParts → Option (List ℕ)
+rest_of tape = Some tape.rest
+
+abbrev pub written_of : TapeParts → Option (List ℕ)
+written_of tape = Some tape.written
 
 -- the number of bytes that a read gives into a buffer of `room` bytes
 abbrev pub piece_len : TapeParts → ℕ → ℕ

@@ -1,6 +1,6 @@
 //! Readers and writers of std as streams.
-ghost use Rattle.std.specs.Prelude.{◌≡◌, ◌+◌, ◌<◌, ◌≤◌, None, length, IfOk, OnOk, OnErr};
-ghost use Rattle.std.specs.Io.KnownBytes.{Keeps, ReadConsumes, WriteAppends};
+ghost use Rattle.std.specs.Prelude.{◌≡◌};
+ghost use Rattle.std.specs.Io.KnownBytes.{ReadConsumes, WriteAppends};
 
 use crate::failures::Failures;
 use crate::stream::{Device, Sink, Source, StreamFault};
@@ -40,16 +40,13 @@ impl<X> Device for Foreign<X> {
 }
 
 impl<X: Read> Source for Foreign<X> {
+    ghost use Rattle.regatta_streams.specs.Calls.{IsRead};
     ghost use Rattle.regatta_streams.specs.Foreigns.{failed_calls, failed_reads, inner_bytes};
+    ghost use Rattle.regatta_streams.specs.Foreigns.{unknown};
 
     fn read(&mut self, buf: &mut [u8]) -> Result<usize, StreamFault>
-        ensures bound { IfOk result (λ n. n ≤ length buf.new) }
-        ensures bytes { ReadConsumes None None result buf.new }
-        ensures keeps { Keeps None None }
-        ensures well { OnOk result (failed_calls self.new ≡ failed_calls self.old) }
-        ensures failed { OnErr result (failed_calls self.new ≡ failed_calls self.old + 1) }
-        ensures reads_well { OnOk result (failed_reads self.new ≡ failed_reads self.old) }
-        ensures read_failed { OnErr result (failed_reads self.new ≡ failed_reads self.old + 1) }
+        ensures is_read { IsRead failed_calls failed_reads unknown unknown self.old self.new
+            result buf.new }
 
         // The reader's bytes, its end and its faults pass through as they are.
         ensures handed_on { ReadConsumes (inner_bytes X.remaining self.old)
@@ -67,16 +64,13 @@ impl<X: Read> Source for Foreign<X> {
 }
 
 impl<X: Write> Sink for Foreign<X> {
+    ghost use Rattle.regatta_streams.specs.Calls.{IsWrite};
     ghost use Rattle.regatta_streams.specs.Foreigns.{failed_calls, failed_reads, inner_bytes};
+    ghost use Rattle.regatta_streams.specs.Foreigns.{unknown};
 
     fn write(&mut self, buf: &[u8]) -> Result<usize, StreamFault>
-        ensures bound { IfOk result (λ n. n ≤ length buf.now) }
-        ensures some { IfOk result (λ n. 0 < length buf.now → 0 < n) }
-        ensures bytes { WriteAppends None None result buf.now }
-        ensures keeps { Keeps None None }
-        ensures well { OnOk result (failed_calls self.new ≡ failed_calls self.old) }
-        ensures failed { OnErr result (failed_calls self.new ≡ failed_calls self.old + 1) }
-        ensures no_read { failed_reads self.new ≡ failed_reads self.old }
+        ensures is_write { IsWrite failed_calls failed_reads unknown unknown self.old self.new
+            result buf.now }
 
         // The writer gets these bytes, and the result is the number that it took.
         ensures handed_on { WriteAppends (inner_bytes X.contents self.old)

@@ -1,7 +1,5 @@
 //! Streams over memory.
-ghost use Rattle.std.specs.Prelude.{◌≡◌, ◌+◌, ◌<◌, ◌≤◌, ◌↔◌, [], Some, length, take, IfOk, OnOk};
-ghost use Rattle.std.specs.Prelude.{OnErr, IsErr};
-ghost use Rattle.std.specs.Io.KnownBytes.{Keeps, ReadConsumes, WriteAppends};
+ghost use Rattle.std.specs.Prelude.{◌≡◌, ◌<◌, ◌↔◌, [], length, take, IfOk, OnErr, IsErr};
 
 use crate::failures::Failures;
 use crate::stream::{Device, Sink, Source, StreamFault};
@@ -99,26 +97,25 @@ impl Tape {
 }
 
 impl Device for Tape {
-    ghost failures = { λ tape. tape.failures };
+    ghost use Rattle.regatta_streams.specs.Tapes.{failed_calls, failed_reads, rest_of, written_of};
 
-    ghost failed_reads = { λ tape. tape.failed_reads };
+    ghost failures = { failed_calls };
 
-    ghost remaining = { λ tape. Some tape.rest };
+    ghost failed_reads = { failed_reads };
 
-    ghost contents = { λ tape. Some tape.written };
+    ghost remaining = { rest_of };
+
+    ghost contents = { written_of };
 }
 
 impl Source for Tape {
+    ghost use Rattle.regatta_streams.specs.Calls.{IsRead};
+    ghost use Rattle.regatta_streams.specs.Tapes.{failed_calls, failed_reads, rest_of, written_of};
     ghost use Rattle.regatta_streams.specs.Tapes.{piece_len, after_read, after_failed_read};
 
     fn read(&mut self, buf: &mut [u8]) -> Result<usize, StreamFault>
-        ensures bound { IfOk result (λ n. n ≤ length buf.new) }
-        ensures bytes { ReadConsumes (Some self.old.rest) (Some self.new.rest) result buf.new }
-        ensures keeps { Keeps (Some self.old.written) (Some self.new.written) }
-        ensures well { OnOk result (self.new.failures ≡ self.old.failures) }
-        ensures failed { OnErr result (self.new.failures ≡ self.old.failures + 1) }
-        ensures reads_well { OnOk result (self.new.failed_reads ≡ self.old.failed_reads) }
-        ensures read_failed { OnErr result (self.new.failed_reads ≡ self.old.failed_reads + 1) }
+        ensures is_read { IsRead failed_calls failed_reads rest_of written_of self.old self.new
+            result buf.new }
 
         // It fails exactly when it has given all that it may. Otherwise it gives as much as it can.
         ensures fails { IsErr result ↔ (self.old.gives ≡ 0) }
@@ -141,17 +138,13 @@ impl Source for Tape {
 }
 
 impl Sink for Tape {
+    ghost use Rattle.regatta_streams.specs.Calls.{IsWrite};
+    ghost use Rattle.regatta_streams.specs.Tapes.{failed_calls, failed_reads, rest_of, written_of};
     ghost use Rattle.regatta_streams.specs.Tapes.{taken_len, after_write, after_failed_write};
 
     fn write(&mut self, buf: &[u8]) -> Result<usize, StreamFault>
-        ensures bound { IfOk result (λ n. n ≤ length buf.now) }
-        ensures some { IfOk result (λ n. 0 < length buf.now → 0 < n) }
-        ensures bytes { WriteAppends (Some self.old.written) (Some self.new.written)
+        ensures is_write { IsWrite failed_calls failed_reads rest_of written_of self.old self.new
             result buf.now }
-        ensures keeps { Keeps (Some self.old.rest) (Some self.new.rest) }
-        ensures well { OnOk result (self.new.failures ≡ self.old.failures) }
-        ensures failed { OnErr result (self.new.failures ≡ self.old.failures + 1) }
-        ensures no_read { self.new.failed_reads ≡ self.old.failed_reads }
 
         // It fails exactly when there are bytes and no room. Otherwise it takes as many as fit.
         ensures fails { IsErr result ↔ ((self.old.takes ≡ 0) × (0 < length buf.now)) }

@@ -1,7 +1,9 @@
 //! Whole texts read from a stream or written to one.
-ghost use Rattle.std.specs.Prelude.{◌≡◌, ◌+◌, ◌<◌, ◌≤◌, length, IfOk, IfSome, OnOk, OnErr, IsErrOf};
-ghost use Rattle.std.specs.Io.KnownBytes.{Appends, IsAtEnd, Keeps};
-ghost use Rattle.regatta_streams.specs.Texts.{GaveAtMost, AppendsPrefix};
+ghost use Rattle.std.specs.Prelude.{◌≡◌, ◌+◌, ◌<◌, length, IfOk, IfSome, OnOk, IsErrOf};
+ghost use Rattle.std.specs.Io.KnownBytes.{IsAtEnd, Keeps};
+ghost use Rattle.regatta_streams.specs.Calls.{WritesWhole};
+ghost use Rattle.regatta_streams.specs.Faults.{failed_calls_in};
+ghost use Rattle.regatta_streams.specs.Texts.{GaveAtMost, IsAllOf};
 
 use crate::stream::{Sink, Source, StreamFault};
 use std::alloc::Global;
@@ -31,9 +33,7 @@ const PIECE: usize = 4096;
 /// `Stream` if a read fails, `NoMemory` if an allocation fails. `TooLong` if a byte past the limit
 /// comes: no further byte is read.
 pub fn read_text<R: Source>(alloc: Global, input: &mut R, limit: u32) -> Result<Vec<u8>, ReadFault>
-    ensures text { IfOk result (λ text.
-        IfSome (R.remaining input.old) (λ given. text.items ≡ given)) }
-    ensures short { IfOk result (λ text. length text.items ≤ limit) }
+    ensures text { IfOk result (λ text. IsAllOf (R.remaining input.old) limit text.items) }
     ensures end { OnOk result (IsAtEnd (R.remaining input.new)) }
     ensures long { IsErrOf result ReadFault.TooLong →
         IfSome (R.remaining input.old) (λ given. limit < length given) }
@@ -43,13 +43,7 @@ pub fn read_text<R: Source>(alloc: Global, input: &mut R, limit: u32) -> Result<
     ensures keeps { Keeps (R.contents input.old) (R.contents input.new) }
 
     // A failed read is reported as `Stream` and as nothing else.
-    ensures failed { IsErrOf result ReadFault.Stream →
-        R.failures input.new ≡ R.failures input.old + 1 }
-    ensures well { OnOk result (R.failures input.new ≡ R.failures input.old) }
-    ensures well_long { IsErrOf result ReadFault.TooLong →
-        R.failures input.new ≡ R.failures input.old }
-    ensures well_memory { IsErrOf result ReadFault.NoMemory →
-        R.failures input.new ≡ R.failures input.old }
+    ensures failed { R.failures input.new ≡ R.failures input.old + failed_calls_in result }
 {
     let most = limit as usize;
     let mut buffer = [0; PIECE];
@@ -75,16 +69,8 @@ pub fn read_text<R: Source>(alloc: Global, input: &mut R, limit: u32) -> Result<
 ///
 /// If a write fails. Some first part of the bytes is written then, perhaps none, never all.
 pub fn write_all<W: Sink>(output: &mut W, bytes: &[u8]) -> Result<(), StreamFault>
-    ensures ok { OnOk result
-        (Appends (W.contents output.old) (W.contents output.new) bytes.now) }
-    ensures cut { OnErr result
-        (AppendsPrefix (W.contents output.old) (W.contents output.new) bytes.now) }
-    ensures well { OnOk result (W.failures output.new ≡ W.failures output.old) }
-    ensures failed { OnErr result (W.failures output.new ≡ W.failures output.old + 1) }
-    ensures no_read { W.failed_reads output.new ≡ W.failed_reads output.old }
-
-    // What is still to be read stays.
-    ensures keeps { Keeps (W.remaining output.old) (W.remaining output.new) }
+    ensures { WritesWhole W.failures W.failed_reads W.remaining W.contents output.old output.new
+        result bytes.now }
 {
     let mut rest = bytes;
     while !rest.is_empty() {

@@ -12,3 +12,4 @@ pub mod TableTexts
 pub mod Worked
 pub mod WorkedFiles
 pub mod WorkedLists
+pub mod Written

@@ -5,9 +5,9 @@ ghost use Rattle.std.specs.Prelude.{vec_capacity, codes, []};
 ghost use Rattle.regatta_terms.specs.Entries.{points_text};
 ghost use Rattle.regatta_terms.specs.Words.{spaced};
 ghost use Rattle.regatta_tables.specs.TableTexts.{rank_text};
-ghost use Rattle.std.specs.Prelude.{OnOk, OnErr, IsOk};
 ghost use Rattle.regatta_tables.specs.Lines.{line};
 ghost use Rattle.regatta_tables.specs.ReplyTexts.{reply_text, named_words};
+ghost use Rattle.regatta_tables.specs.Written.{Replied};
 
 use crate::page::{put, put_number, put_piece};
 use crate::pieces::{make_room, push_piece};
@@ -25,12 +25,7 @@ const NUMBER_ROOM: usize = 7;
 /// Appends a reply, a line that ends in a line feed. If the capacity has [`REPLY_ROOM`] bytes left,
 /// it never fails and the capacity stays.
 pub fn write_reply(reply: &Reply, out: &mut Vec<u8>) -> Result<(), AllocError>
-    ensures ok { OnOk result (out.new.items ≡ out.old.items ++ reply_text reply.now) }
-    ensures err { OnErr result (out.new.items ≡ out.old.items) }
-    ensures room { vec_capacity out.old ≤ vec_capacity out.new }
-    ensures fits { vec_len out.old + REPLY_ROOM ≤ vec_capacity out.old → IsOk result }
-    ensures stays { vec_len out.old + REPLY_ROOM ≤ vec_capacity out.old
-        → vec_capacity out.new ≡ vec_capacity out.old }
+    ensures { Replied (reply_text reply.now) out.old out.new result }
 {
     match reply {
         Reply::Done(answer) => write_answer(answer, out),
@@ -47,12 +42,7 @@ pub fn write_reply(reply: &Reply, out: &mut Vec<u8>) -> Result<(), AllocError>
 /// Appends a short text unchanged.
 fn write_text(text: &[u8], out: &mut Vec<u8>) -> Result<(), AllocError>
     requires { length text.now ≤ REPLY_ROOM }
-    ensures ok { OnOk result (out.new.items ≡ out.old.items ++ text.now) }
-    ensures err { OnErr result (out.new.items ≡ out.old.items) }
-    ensures room { vec_capacity out.old ≤ vec_capacity out.new }
-    ensures fits { vec_len out.old + REPLY_ROOM ≤ vec_capacity out.old → IsOk result }
-    ensures stays { vec_len out.old + REPLY_ROOM ≤ vec_capacity out.old
-        → vec_capacity out.new ≡ vec_capacity out.old }
+    ensures { Replied text.now out.old out.new result }
 {
     push_piece(out, text)
 }
@@ -127,12 +117,7 @@ fn put_answer(page: &mut [u8], answer: &Answer) -> usize
 
 /// Appends the answer to an accepted command.
 fn write_answer(answer: &Answer, out: &mut Vec<u8>) -> Result<(), AllocError>
-    ensures ok { OnOk result (out.new.items ≡ out.old.items ++ reply_text (Reply.Done answer.now)) }
-    ensures err { OnErr result (out.new.items ≡ out.old.items) }
-    ensures room { vec_capacity out.old ≤ vec_capacity out.new }
-    ensures fits { vec_len out.old + REPLY_ROOM ≤ vec_capacity out.old → IsOk result }
-    ensures stays { vec_len out.old + REPLY_ROOM ≤ vec_capacity out.old
-        → vec_capacity out.new ≡ vec_capacity out.old }
+    ensures { Replied (reply_text (Reply.Done answer.now)) out.old out.new result }
 {
     let mut page = [0; REPLY_ROOM];
     let end = put_answer(&mut page, answer);
@@ -153,12 +138,7 @@ fn put_ranked(page: &mut [u8], touched: &Touched) -> usize
 
 /// Appends the rank and net of a boat.
 fn write_ranked(touched: &Touched, out: &mut Vec<u8>) -> Result<(), AllocError>
-    ensures ok { OnOk result (out.new.items ≡ out.old.items ++ reply_text (Reply.Ranked touched.now)) }
-    ensures err { OnErr result (out.new.items ≡ out.old.items) }
-    ensures room { vec_capacity out.old ≤ vec_capacity out.new }
-    ensures fits { vec_len out.old + REPLY_ROOM ≤ vec_capacity out.old → IsOk result }
-    ensures stays { vec_len out.old + REPLY_ROOM ≤ vec_capacity out.old
-        → vec_capacity out.new ≡ vec_capacity out.old }
+    ensures { Replied (reply_text (Reply.Ranked touched.now)) out.old out.new result }
 {
     let mut page = [0; REPLY_ROOM];
     let end = put_ranked(&mut page, touched);
@@ -191,13 +171,7 @@ fn push_number(out: &mut Vec<u8>, number: u8)
 
 /// Appends the number of a refusal or a fault.
 fn write_number(number: u8, out: &mut Vec<u8>) -> Result<(), AllocError>
-    ensures ok { OnOk result (out.new.items
-        ≡ out.old.items ++ line (codes "NO" ∷ decimal number ∷ [])) }
-    ensures err { OnErr result (out.new.items ≡ out.old.items) }
-    ensures room { vec_capacity out.old ≤ vec_capacity out.new }
-    ensures fits { vec_len out.old + REPLY_ROOM ≤ vec_capacity out.old → IsOk result }
-    ensures stays { vec_len out.old + REPLY_ROOM ≤ vec_capacity out.old
-        → vec_capacity out.new ≡ vec_capacity out.old }
+    ensures { Replied (line (codes "NO" ∷ decimal number ∷ [])) out.old out.new result }
 {
     make_room(out, NUMBER_ROOM)?;
     out.push_reserved(b'N');

@@ -1,12 +1,13 @@
 //! The standing as CSV.
 
-ghost use Rattle.std.specs.Prelude.{◌≡◌, ◌≢◌, ◌≤◌, ◌++◌, Some, true, false, IfOk, OnOk, OnErr, map};
-ghost use Rattle.std.specs.Prelude.{flat_map, vec_capacity, codes, decimal};
+ghost use Rattle.std.specs.Prelude.{◌≡◌, ◌++◌, Some, false, IfOk, OnOk, map};
+ghost use Rattle.std.specs.Prelude.{flat_map, codes, decimal};
 ghost use Rattle.std.specs.Io.KnownBytes.{Appends};
 ghost use Rattle.csv.specs.Writing as written;
 ghost use Rattle.csv.specs.Writing.{row_text};
 ghost use Rattle.regatta_tables.specs.CsvTexts.{any_lengths, csv_text, header_fields};
 ghost use Rattle.regatta_tables.specs.TableTexts.{row_words, cell_text};
+ghost use Rattle.regatta_tables.specs.Written.{Appended};
 
 use crate::cells::{CELL_ROOM, put_cell};
 use crate::pieces::rank_word;
@@ -23,9 +24,7 @@ use std::alloc::{AllocError, Global};
 /// `AllocError` if an allocation fails, also one of the `csv` writer's own. `out` then has its old
 /// contents, and its capacity is never less.
 pub fn write_csv(alloc: Global, standing: &Standing, out: &mut Vec<u8>) -> Result<(), AllocError>
-    ensures ok { OnOk result (out.new.items ≡ out.old.items ++ csv_text standing.now) }
-    ensures err { OnErr result (out.new.items ≡ out.old.items) }
-    ensures room { vec_capacity out.old ≤ vec_capacity out.new }
+    ensures { Appended (csv_text standing.now) out.old out.new result }
 {
     let Ok(text) = results(alloc, standing) else {
         return Err(AllocError);

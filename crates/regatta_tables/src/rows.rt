@@ -1,12 +1,13 @@
 //! A boat's row of a table.
 
 ghost use Rattle.std.specs.Prelude.{◌≡◌, ◌≤◌, ◌<◌, ◌++◌, ◌+◌, ◌∷◌, [], map, take, length, vec_len};
-ghost use Rattle.std.specs.Prelude.{vec_capacity, OnOk, OnErr, IfOk};
+ghost use Rattle.std.specs.Prelude.{vec_capacity, OnErr, IfOk};
 ghost use Rattle.std.specs.List.{join_with_byte};
 ghost use Rattle.regatta_terms.specs.Entries.{points_text};
 ghost use Rattle.regatta_terms.specs.Words.{spaced};
 ghost use Rattle.regatta_tables.specs.Lines.{line};
 ghost use Rattle.regatta_tables.specs.TableTexts.{row_words, cell_text, rank_text};
+ghost use Rattle.regatta_tables.specs.Written.{Lengthened, Pushed};
 
 use crate::cells::{CELL_ROOM, put_cell};
 use crate::page::{put, put_number, put_piece, put_points};
@@ -78,8 +79,7 @@ fn next_place(page: &[u8], at: usize, out: &mut Vec<u8>) -> Result<usize, AllocE
     ensures ok { IfOk result (λ place. out.new.items ++ take place page.now
         ≡ out.old.items ++ take at page.now) }
     ensures way { IfOk result (λ place. place + NEXT_ROOM ≤ PAGE_ROOM) }
-    ensures before { take (vec_len out.old) out.new.items ≡ out.old.items }
-    ensures room { vec_capacity out.old ≤ vec_capacity out.new }
+    ensures longer { Lengthened out.old out.new }
     ensures full { OnErr result (vec_capacity out.old < vec_len out.old + at) }
 {
     if at <= PAGE_ROOM - NEXT_ROOM {
@@ -102,9 +102,8 @@ fn put_cells(
     ensures ok { IfOk result (λ end. out.new.items ++ take end page.new
         ≡ (out.old.items ++ take from page.old) ++ spaced (map cell_text cells.now)) }
     ensures within { IfOk result (λ end. end < PAGE_ROOM) }
-    ensures before { take (vec_len out.old) out.new.items ≡ out.old.items }
+    ensures longer { Lengthened out.old out.new }
     ensures same { length page.new ≡ length page.old }
-    ensures room { vec_capacity out.old ≤ vec_capacity out.new }
     ensures full { OnErr result (vec_capacity out.old
         < vec_len out.old + from + length (spaced (map cell_text cells.now))) }
 {
@@ -120,12 +119,8 @@ fn put_cells(
 /// Appends a boat's row, which is made on the page.
 pub(crate) fn push_row(row: &Row, page: &mut [u8], out: &mut Vec<u8>) -> Result<(), AllocError>
     requires page { length page.old ≡ PAGE_ROOM }
-    ensures ok { OnOk result (out.new.items ≡ out.old.items ++ line (row_words row.now)) }
-    ensures err { OnErr result (take (vec_len out.old) out.new.items ≡ out.old.items) }
+    ensures pushed { Pushed (line (row_words row.now)) out.old out.new result }
     ensures same { length page.new ≡ length page.old }
-    ensures room { vec_capacity out.old ≤ vec_capacity out.new }
-    ensures full { OnErr result (vec_capacity out.old
-        < vec_len out.old + length (line (row_words row.now))) }
 {
     let at = put_head(page, row);
     let at = put_cells(row.cells.as_slice(), page, at, out)?;

@@ -12,8 +12,11 @@ from raceoffice.results.snapshot import Snapshot
 
 # How many boats have a line, and the last rank that has a height of its own.
 LINES, DEEPEST = 8, 16
-# Pixels with letters of the usual size: between ranks, above the first rank, and left and right of the lines.
-HIGH, ABOVE, LEFT, RIGHT = 20, 34, 40, 118
+# Pixels with letters of the usual size: between ranks, above the first rank, left of the lines, at least right of them,
+# and between a line's end and its label.
+HIGH, ABOVE, LEFT, RIGHT, GAP = 20, 34, 40, 118, 20
+# The most that a sign of a label takes: a digit, a space, and any other.
+DIGIT, SPACE, SIGN = 9, 5, 14
 # The width that a phone has for the lines, the least and the most between two races, and the width of
 # a race's number.
 PHONE, NEAREST, FARTHEST, NUMBER = 206, 15, 40, 30
@@ -23,9 +26,9 @@ DASHES = ["", "7 3", "2 3", "11 3 2 3", "", "7 3", "2 3", "11 3 2 3"]
 def ranks(view: Snapshot) -> dict[str, list[tuple[int, bool]]]:
     """Each boat's rank after each race, and whether she shares it."""
     found: dict[str, list[tuple[int, bool]]] = {row.sail: [] for row in view.standing.rows}
-    for standing in view.course:
-        for row in standing.rows:
-            found[row.sail].append((row.rank, row.shared))
+    for after in view.course:
+        for sail, place in after.items():
+            found[sail].append(place)
     return found
 
 
@@ -51,17 +54,26 @@ def mark(kind: int, x: int, y: int) -> Markup:
     return tag("path", d=f"M{x} {y - 6}l5 6l-5 6l-5 -6z", class_=look)
 
 
-def line(at: int, row: Row, places: list[tuple[int, bool]], deepest: int, name: str) -> Markup:
+def line(at: int, places: list[tuple[int, bool]], deepest: int, name: str) -> Markup:
     """A boat's line with its marks, and her label at its end."""
     points = [(LEFT + step(len(places)) * number, height(rank, deepest))
               for number, (rank, _) in enumerate(places)]
     path = " ".join(f"{x},{y}" for x, y in points)
     (x, y), end = points[-1], height(at + 1, deepest)
-    rank = f"{row.rank}{'=' if row.shared else ''}"
     return tag("g", tag("polyline", points=path, stroke_dasharray=DASHES[at] or None),
                *(mark(at, *point) for point in points),
                tag("path", class_="to", d=f"M{x + 7} {y}L{x + 16} {end}"),
-               tag("text", f"{rank} {name}", x=x + 20, y=end + 5), class_=f"c{at}")
+               tag("text", name, x=x + GAP, y=end + 5), class_=f"c{at}")
+
+
+def label(view: Snapshot, row: Row) -> str:
+    """What a boat's line is called: her rank and her sail."""
+    return f"{row.rank}{'=' if row.shared else ''} {view.boat(row.sail).sail}"
+
+
+def width(text: str) -> int:
+    """The most pixels that a label takes, in any of the letters that a page may have."""
+    return sum(DIGIT if sign.isdigit() else SPACE if sign == " " else SIGN for sign in text)
 
 
 def axes(view: Snapshot, deepest: int, has_later: bool) -> Markup:
@@ -85,10 +97,10 @@ def picture(view: Snapshot) -> Markup:
     worst = max(rank for row in rows for rank, _ in found[row.sail])
     deepest = min(max(worst, len(rows)), DEEPEST)
     races = len(view.standing.races)
-    wide = LEFT + step(races) * (races - 1) + RIGHT
+    labels = [label(view, row) for row in rows]
+    wide = LEFT + step(races) * (races - 1) + max(RIGHT, *(GAP + width(text) for text in labels))
     high = height(deepest + (worst > deepest), deepest) + 16
-    lines = [line(at, row, found[row.sail], deepest, view.boat(row.sail).sail)
-             for at, row in enumerate(rows)]
+    lines = [line(at, found[row.sail], deepest, text) for at, (row, text) in enumerate(zip(rows, labels))]
     which = f"the first {len(rows)} boats" if len(view.standing.rows) > len(rows) else "all boats"
     drawn = tag("svg", axes(view, deepest, worst > deepest), *lines, width=rem(wide), height=rem(high),
                 viewBox=f"0 0 {wide} {high}", role="img", aria_label=f"Chart: the rank of {which} after "

@@ -6,7 +6,7 @@ from collections.abc import Sequence
 from raceoffice.results.html.markup import NOTHING, Markup, separated, tag, together
 from raceoffice.results.html.page import SCORING, framed
 from raceoffice.results.html.sealing import block, digest, version_of
-from raceoffice.results.snapshot import Snapshot
+from raceoffice.results.snapshot import Snapshot, told_apart
 from raceoffice.wording import count
 
 
@@ -16,11 +16,12 @@ def version(views: Sequence[Snapshot]) -> str:
 
 
 def leaders(view: Snapshot) -> Markup:
-    """Who is first: up to three boats that share the rank."""
+    """Who is first: up to three boats that share the rank, and how many others do."""
     first = [row for row in view.standing.rows if row.rank == 1] if view.standing.races else []
     boats = [view.boat(row.sail) for row in first[:3]]
     which = "Leads" if view.settings.state == "provisional" else "First"
     names = [together(tag("b", boat.sail), f" {boat.helm}") for boat in boats]
+    names += [together(len(first) - 3, " more")] if len(first) > 3 else []
     return tag("p", which, ": ", separated(names, " and ")) if names else NOTHING
 
 
@@ -28,7 +29,7 @@ def entry(view: Snapshot, above: Sequence[str]) -> Markup:
     """A series in the list: what isn't above it already, how far it is, and who leads."""
     shown, stale = view.settings, len(view.decided.stale)
     sub = " · ".join(text for text in (shown.title, shown.club)
-                     if text and text not in (view.label, *above))
+                     if text and text not in (shown.group or shown.title, *above))
     boats = count(len(view.standing.rows), "boat")
     beware = tag("p", count(stale, "decision"), " that these scores don’t have as they should.",
                  class_="reason stale") if stale else NOTHING
@@ -53,7 +54,7 @@ def listing(views: Sequence[Snapshot]) -> str:
     is_live = any(view.settings.state == "provisional" for view in views)
     body = tag("main", separated([
         "", tag("header", tag("h1", small, title)),
-        tag("ul", "\n", *(entry(view, above) for view in views), "\n", class_="list", id="table"),
+        tag("ul", "\n", *(entry(view, above) for view in told_apart(views)), "\n", class_="list", id="table"),
         tag("footer", tag("p", f"Scored by regatta under {SCORING}")), block("list", views), ""], "\n"),
         class_="series")
     every = max((view.settings.every for view in views), default=5)

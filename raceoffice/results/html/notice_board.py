@@ -10,21 +10,20 @@ from raceoffice.results.html.chart import chart
 from raceoffice.results.html.markup import NOTHING, Markup, separated, tag, together
 from raceoffice.results.html.page import classes, finder, foot, framed, head, rem
 from raceoffice.results.html.sealing import block, version_of
-from raceoffice.results.snapshot import Snapshot, labels_of
+from raceoffice.results.snapshot import Snapshot, told_apart
 
 
 def placed(views: Sequence[Snapshot]) -> list[Snapshot]:
-    """The classes, each with the beginning of the names of its places in the page."""
+    """The classes, each with what it is called, and with the beginning of the names of its places in the page."""
     return [dataclasses.replace(view, ids=f"c{at}-" if len(views) > 1 else "")
-            for at, view in enumerate(views, 1)]
+            for at, view in enumerate(told_apart(views), 1)]
 
 
 def ways(views: Sequence[Snapshot]) -> Markup:
     """The way to each class."""
     if len(views) < 2:
         return NOTHING
-    return together(classes([tag("li", tag("a", label, href=f"#{view.ids}class"))
-                             for label, view in zip(labels_of(views), views)]), "\n")
+    return together(classes([tag("li", tag("a", view.label, href=f"#{view.ids}class")) for view in views]), "\n")
 
 
 def section(view: Snapshot, at: int) -> Markup:

@@ -14,6 +14,8 @@ from raceoffice.wording import TIMES, joined, one_decimal, ordinal, spans
 
 # On paper the races after these are in a second table.
 MOST_COLUMNS = 24
+# The letters that mark ties.
+LETTERS = 26
 # On paper this many boats leave room for the notes below them, in large letters.
 MOST_ROOMY = 12
 MOST_ACROSS, MOST_IN_ONE_LINE, MOST_UPRIGHT = 16, 24, 26
@@ -58,7 +60,7 @@ def broken(view: Snapshot, better: Row, worse: Row) -> str:
 
 
 def letter(number: int) -> str:
-    return chr(97 + number) if number < 26 else letter(number // 26 - 1) + letter(number % 26)
+    return chr(97 + number) if number < LETTERS else letter(number // LETTERS - 1) + letter(number % LETTERS)
 
 
 def cell(score: Score) -> Markup:
@@ -266,8 +268,11 @@ def style(view: Snapshot, scope: str = "main.standing") -> str:
     races, rows = len(view.standing.races), f"{scope} > .scroll"
     hidden = (f"{rows} .r:nth-child(n + {MOST_COLUMNS + 5}) {{ display: none; }}"
               if races > MOST_COLUMNS else "")
+    # With more ties than letters a mark has two of these, which need more room beside the net.
+    marks = (f"{rows} .net {{ padding-right: 2rem; }}\n@media print {{ {rows} .net {{ padding-right: 4.6mm; }} }}\n"
+             if len(view.ties()) > LETTERS else "")
     return f"""{scope} {{ --wide: {rem(fits(view) + 160)}; }}
-@media print {{ {hidden} }}
+{marks}@media print {{ {hidden} }}
 @media screen and (max-width: {rem(fits(view))}) {{
   {rows} {{ overflow: auto; max-height: calc(100dvh - 1rem); }}
   .alarm:not([hidden]) ~ main thead th {{ top: 0; }}
@@ -276,8 +281,8 @@ def style(view: Snapshot, scope: str = "main.standing") -> str:
   {rows} .rank, {rows} th.sail, {rows} .net {{ position: sticky; z-index: 2; }}
   {rows} thead .rank, {rows} thead th.sail, {rows} thead .net {{ z-index: 4; }}
   {rows} .rank {{ left: 0; min-width: 3.2rem; }}
-  {rows} th.sail {{ left: 3.2rem; width: 9.4rem; min-width: 9.4rem; max-width: 9.4rem; }}
-  {rows} th.sail .helm {{ display: block; overflow: hidden; text-overflow: ellipsis; }}
+  {rows} th.sail {{ left: 3.2rem; width: 9.4rem; min-width: 9.4rem; max-width: 9.4rem; white-space: normal; overflow-wrap: anywhere; }}
+  {rows} th.sail .helm {{ display: block; overflow: hidden; text-overflow: ellipsis; white-space: nowrap; }}
   {rows} .net {{ left: 12.6rem; box-shadow: inset -1px 0 var(--line); }}
   {rows} .who {{ display: none; }}
   :root:has(#more:checked) {rows} .who {{ display: table-cell; min-width: 13rem; }}

@@ -8,11 +8,15 @@ import {spaced} from "./sails.js";
 import {agreedOf, wordsOf} from "./questions.js";
 import {clock, named, page, queue} from "./finish-state.js";
 
+// Questions about a boat and a place that may be answered by no
+const MAY_DENY = ["finished-after", "place-ahead"];
+
 export async function ask(item) {
   const {clock: asked} = item, isWhen = !item.question;
   const done = isWhen ? await askWhen(item) : item.isWhere ? await askWhere(item) : await askWhether(item);
   if (done === "drop") queue.drop(item);
   else if (isWhen && done) takeMoments(asked, done);
+  else if (done === "ahead") queue.change(item, {state: "unsent", denied: [...item.denied ?? [], agreedOf(item.question)]});
   else if (done === "after") queue.change(item, {state: "unsent", behind: null});
   else if (done) queue.change(item, {state: "unsent", agreed: [...item.agreed, agreedOf(item.question)]});
   else page.putOffAt = performance.now();
@@ -32,8 +36,12 @@ export async function showLeft(item) {
 
 function askWhether(item) {
   const [mark, , sail = mark] = item.line.split(" ");
+  const {kind, values} = item.question;
+  // She may be ahead of a place: no other button puts her there.
+  const ahead = MAY_DENY.includes(kind) ? [{value: "ahead", label: text("finish.noAhead", {mark: values.mark})}] : [];
+  const drop = {value: "drop", label: text(ahead.length ? "finish.dropTap" : "finish.noDrop"), look: "bad"};
   return choose(text("common.isThatRight"), [page.classes.length > 1 && named(item.class, sail), wordsOf(item.question)],
-    [{value: "drop", label: text("finish.noDrop"), look: "bad"}, {value: "yes", label: text("finish.yesSend"), look: "main"}]);
+    [drop, ...ahead, {value: "yes", label: text("finish.yesSend"), look: "main"}], ahead.length ? "stack" : undefined);
 }
 
 // The clock of this device was set while the office wasn't reached, before the tap or after it.

@@ -39,7 +39,7 @@ function modeButton(kind, isOff, modeWhenOn) {
 
 function undoWords(line) {
   const [command, , sail, code] = line.split(" "), what = sail ? short(sail) : "";
-  if (command === "?") return text("finish.undoWhat", {what: "?"});
+  if (command === "?" || sail === "NONE") return text("finish.undoWhat", {what: command});
   return text("finish.undoWhat", {what: ["MARK", "PENALTY"].includes(command) ? `${what} ${code}` : what});
 }
 

@@ -231,8 +231,10 @@ async function loadAgain() {
   location.reload();
 }
 
-// What is wrong, in a word or two for the sign at the top
+// What is wrong, in a word or two for the sign at the top. The office of a class that this device neither records nor holds
+// taps of may be away.
 export function trouble() {
   if (queue.isFull) return text("finish.deviceFull");
-  return page.classes.some(one => page.states[one.class]?.trouble) ? text("common.officeAway") : "";
+  const isAway = ({class: name}) => page.states[name]?.trouble && (page.races[name] || queue.of(name).length);
+  return page.classes.some(isAway) ? text("common.officeAway") : "";
 }

@@ -26,10 +26,10 @@ function raceButton(one, place) {
 }
 
 function drawLink() {
-  const unsent = queue.items.filter(item => stateOf(item) === "unsent").length, isLive = page.link === "live";
-  byId("link").className = `link ${isOut ? "bad" : unsent || !isLive ? "away" : ""}`;
+  const unsent = queue.items.filter(item => stateOf(item) === "unsent").length, isLive = page.link === "live", isAway = unsent || !isLive || trouble();
+  byId("link").className = `link ${isOut ? "bad" : isAway ? "away" : ""}`;
   byId("link").textContent = linkWords(unsent, isLive);
-  byId("link").dataset.state = isOut ? "out" : isLive && !unsent && !trouble() ? "live" : isLive ? "sending" : "away";
+  byId("link").dataset.state = isOut ? "out" : !isAway ? "live" : isLive ? "sending" : "away";
 }
 
 function linkWords(unsent, isLive) {

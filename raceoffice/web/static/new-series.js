@@ -88,7 +88,7 @@ function dropPlace(list) {
 }
 
 function nameFields() {
-  const short = element("input", {id: "short", name: "short", placeholder: "autumn-cup", pattern: "[a-z0-9][a-z0-9\\-]*", required: true});
+  const short = element("input", {id: "short", name: "short", placeholder: "autumn-cup", pattern: "[A-Za-z0-9][A-Za-z0-9\\-]*", required: true});
   let isOwn = false;
   short.oninput = () => { isOwn = true; };
   const title = element("input", {id: "series-title", name: "title", required: true,
@@ -105,7 +105,7 @@ function meaningOf(list) {
   const shown = element("div", {class: "meaning", id: "meaning", role: "status"});
   let asked = 0;
   async function look(form) {
-    const mine = ++asked, said = await ask("settings", {settings: settingsOf(new FormData(form)), text: list.found?.text ?? "", system: form.elements.system.value}, READING);
+    const mine = ++asked, said = await ask("settings", {settings: settingsOf(new FormData(form)), text: list.found?.numbered ?? "", system: form.elements.system.value}, READING);
     if (mine !== asked) return;
     const wrong = said.status === 200 ? wrongWords(said) : [troubleWords(said)];
     fill(shown, element("h3", {}, text("new.meaning")), wrong.length ? element("p", {class: "wrong"}, wrong.join("\n")) : element("p", {}, rulesWords(said.settings)),

@@ -11,7 +11,7 @@ export const agreedOf = question => ({kind: question.kind, values: question.valu
 const VARIANTS = {
   "score-penalised": values => values.a53 ? ".a53" : "",
   "redress-unplaced": values => values.a53 ? ".a53" : "",
-  "correction": values => values.declared ? ".declared" : "",
+  "correction": values => values.declared ? `.${values.declared}` : "",
   "announce": values => values.state === "final" ? "" : `.${values.state}`,
   "take-over": values => values.since ? ".since" : "",
   "abandon": values => values.lines.length ? "" : ".places",

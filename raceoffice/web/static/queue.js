@@ -145,8 +145,8 @@ export class Queue {
     if (!this.items.includes(item)) return true;
     // From now on the office may have taken it, whatever becomes of the answer.
     this.change(item, {state: "sending", isSent: true});
-    const {id, line, at, seen, behind, agreed, by_clock, undoes, was, series} = item;
-    const said = await ask(`line/${encodeURIComponent(item.class)}`, {id, line, at, seen, behind, agreed, by_clock, undoes, was, series});
+    const {id, line, at, seen, behind, agreed, denied, by_clock, undoes, was, series} = item;
+    const said = await ask(`line/${encodeURIComponent(item.class)}`, {id, line, at, seen, behind, agreed, denied, by_clock, undoes, was, series});
     return !this.items.includes(item) || this.answered(item, said);
   }
 

@@ -77,7 +77,8 @@ function heardWords(seconds) {
 }
 
 async function putOut(one) {
-  const done = await choose(text("links.putOutQuestion", {name: one.name}), one.unsent ? text("links.losesUnsent", {n: one.unsent}) : "",
+  const said = [text("links.linkEnds"), ...(one.unsent ? [text("links.losesUnsent", {n: one.unsent})] : [])];
+  const done = await choose(text("links.putOutQuestion", {name: one.name}), said.map(words => element("p", {}, words)),
     [{value: "", label: text("common.no")}, {value: "yes", label: text("links.putOut"), look: "bad"}]);
   if (done !== "yes") return;
   await ask("revoke", {mark: one.mark});
@@ -129,19 +130,20 @@ function sayOpened(done) {
 }
 
 // Opens an office, or (`reopen`) closes it and opens it again. What is asked before (a change of the rules, another
-// journal) is asked here.
+// journal) is asked here. An office that is closed is opened with the rules as they were if somebody says No to others.
 export async function openAsking(what, name) {
-  const agreed = [];
+  const agreed = [], denied = [];
   for (;;) {
     say(text("office.opening"));
-    const done = await ask(addressOf(what, name), {agreed}, what === "reopen" ? CLOSING + OPENING : OPENING);
+    const done = await ask(addressOf(what, name), {agreed, denied}, what === "reopen" ? CLOSING + OPENING : OPENING);
     if (done.status !== 409) {
       sayOpened(done);
       break;
     }
     hush();
-    if (await agrees(name, done.question, done.said) !== "yes") break;
-    agreed.push(agreedOf(done.question));
+    const answer = await agrees(name, done.question, done.said, what === "open" && done.question.kind === "new-rules" ? "no" : "");
+    if (!answer) break;
+    (answer === "yes" ? agreed : denied).push(agreedOf(done.question));
   }
 }
 

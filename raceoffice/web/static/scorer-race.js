@@ -84,10 +84,11 @@ function boatButtons(name, race, number, sails) {
     onclick: () => correct(name, number, sail)}, called(sail, name), (race.penalties[sail] ?? []).map(code => [" ", codeTag(code)]))));
 }
 
-// The boats whose times or codes are in the sheet alone
+// The boats whose times or codes are in the sheet alone, and what keeps each of them there
 function waitingPart(name, race, number, waiting) {
+  const why = [...new Set(remarkSentences(waiting.flatMap(sail => race.sheet?.rows[sail]?.why ?? [])))];
   return waiting.length ? element("div", {class: "waits", id: "in-sheet"}, element("p", {}, text("said.sheet-waits", {fault: ""})),
-    boatButtons(name, race, number, waiting)) : null;
+    why.length ? element("p", {}, why.join("\n")) : null, boatButtons(name, race, number, waiting)) : null;
 }
 
 function awayPart(name, race, number, away) {

@@ -45,6 +45,8 @@ export async function lookAtResults(draw) {
 
 function pointWords({kind, values, text: english, remarks = {}}) {
   switch (kind) {
+    case "rules-waiting":
+      return text("results.rulesWaiting", {what: list(values.keys.map(key => text(`settings.key.${key}`)))});
     case "boats-unnamed":
       return text("results.boatsUnnamed", {n: values.sails.length, sails: values.sails.map(spaced)});
     case "race-unscored":

@@ -38,13 +38,13 @@ const isOf = (said, line) => !said.what && `${said.text.trim()} `.startsWith(`${
 // What is said of no line. How many lines there are is in the question.
 const saidElse = (lines, said) => saidWords(said.filter(one => one.what !== "plan" && !lines.some(line => isOf(one, line))));
 
-// Asks a question of the office about a class, with all that is said; "yes" if somebody agrees.
-export function agrees(name, question, said = []) {
+// Asks a question of the office about a class, with all that is said; "yes" if somebody agrees, and `no` if somebody presses No.
+export function agrees(name, question, said = [], no = "") {
   const asked = inWords(question), {lines = [], moves = [], also = ""} = question.kind === "line-of-several" ? {} : asked.values;
   const shown = lines.map(line => said.find(one => isOf(one, line))?.text.trim() ?? line);
   const more = [also, ...moves.map(moveOf), ...saidElse(lines, said)].filter(Boolean).join("\n");
   return choose(text("common.isThatRight"), [withClass(wordsOf(asked), name), shown.length ? element("p", {class: "mono"}, shown.join("\n")) : null, more],
-    [{value: "", label: text("common.no")}, {value: "yes", label: text("common.yes"), look: "main"}]);
+    [{value: no, label: text("common.no")}, {value: "yes", label: text("common.yes"), look: "main"}]);
 }
 
 // What is sent about a class: `what` says for what.

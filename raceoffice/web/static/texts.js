@@ -50,8 +50,8 @@ export function refusalOf(answer, words) {
 
 // What is wrong with an answer that isn't a result
 export function troubleOf(answer) {
-  const key = `trouble.${answer.status}`;
-  return hasText(key) ? text(key) : answer.words ?? text("common.notSent");
+  const key = [`trouble.${answer.kind}`, `trouble.${answer.status}`].find(hasText);
+  return key ? text(key) : answer.words ?? text("common.notSent");
 }
 
 // The form of a text for a number: its own form for nought if it has one, or that of the language's rules.

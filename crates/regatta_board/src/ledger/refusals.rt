@@ -167,7 +167,7 @@ impl Ledger {
             Ok(_) => Err(Refusal::AlreadyEntered),
             Err(_) if self.is_full() => Err(Refusal::EntryFull),
             Err(_) => Ok(Act {
-                boat: Some(self.kept().boats() as u16),
+                boat: Some(self.kept().entry_list().next_number()),
                 step: Step::Enter { sail },
             }),
         }

@@ -38,15 +38,15 @@ loop-boat-preserved c =
           ∙ ap (λ ls. ls ++ drop (b + 1) olds) (sym (lines_more rules c.args.columns.now b));
     }
 
-pub returns-clause-each : goal.returns-clause-each
-returns-clause-each c =
-    of_more_boats c.loop-boat.boat (length c.args.lines.now) c.loop-boat.made.items (omega arith)
-    c.loop-boat.invariant.each
-
-pub returns-clause-value : goal.returns-clause-value
-returns-clause-value c =
+pub returns : goal.returns
+returns c =
     let n = c.loop-boat.boat in
+    let lines_are = lines c.args.rules.now c.args.columns.now in
     let all : n ≡ length c.args.lines.now = omega arith in
-    c.loop-boat.invariant.value
-    ∙ changed_all c.args.lines.now (lines c.args.rules.now c.args.columns.now n) n all
-    ∙ ap (lines c.args.rules.now c.args.columns.now) all
+    record {
+      each = of_more_boats n (length c.args.lines.now) c.loop-boat.made.items (omega (arith, all))
+          c.loop-boat.invariant.each;
+      fewer = omega (arith, all, c.loop-boat.invariant.fewer);
+      value = c.loop-boat.invariant.value
+          ∙ changed_all c.args.lines.now (lines_are n) n all ∙ ap lines_are all;
+    }

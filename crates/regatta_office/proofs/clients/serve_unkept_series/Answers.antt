@@ -18,9 +18,9 @@ returns-clause-done g c =
       lawful = subst (λ (start : Journal). is_lawful limits c.in_ok-begin.begin.rules start ≡ true)
           c.as_slice-start.ensures c.in_ok-opened.ensures.lawful;
       table = subst (λ (start : Journal). PrintsTable c.in_ok-begin.begin.rules start old new)
-          (c.in_ok-opened.ensures.journal ∙ c.as_slice-start.ensures)
+          (c.in_ok-opened.ensures.opened.entries ∙ c.as_slice-start.ensures)
           (subst (λ (rules : RulesParts). PrintsTable rules c.in_ok-opened.opened.entries old new)
-          c.in_ok-opened.ensures.rules c.in_ok-serve_office.ensures.table);
+          c.in_ok-opened.ensures.opened.rules c.in_ok-serve_office.ensures.printed.table);
     })
 
 -- at most a table of the series, also if it isn't written to the end
@@ -32,8 +32,8 @@ returns-clause-at_most g c =
       c.in_ok-begin.begin.rules,
       c.in_ok-begin.begin.start,
       c.in_ok-begin.ensures,
-      at_most_from _ _ _ _ old new c.in_ok-opened.ensures.rules
-          (c.in_ok-opened.ensures.journal ∙ c.as_slice-start.ensures) c.serve_office.ensures.at_most,
+      at_most_from _ _ _ _ old new c.in_ok-opened.ensures.opened.rules
+          (c.in_ok-opened.ensures.opened.entries ∙ c.as_slice-start.ensures) c.serve_office.ensures.printed.at_most,
     ))
 
 pub returns-in_err-serve_office-clause-at_most : goal.returns-in_err-serve_office-clause-at_most
@@ -44,8 +44,8 @@ returns-in_err-serve_office-clause-at_most g c =
       c.in_ok-begin.begin.rules,
       c.in_ok-begin.begin.start,
       c.in_ok-begin.ensures,
-      at_most_from _ _ _ _ old new c.in_ok-opened.ensures.rules
-          (c.in_ok-opened.ensures.journal ∙ c.as_slice-start.ensures) c.serve_office.ensures.at_most,
+      at_most_from _ _ _ _ old new c.in_ok-opened.ensures.opened.rules
+          (c.in_ok-opened.ensures.opened.entries ∙ c.as_slice-start.ensures) c.serve_office.ensures.printed.at_most,
     ))
 
 -- nothing was written yet

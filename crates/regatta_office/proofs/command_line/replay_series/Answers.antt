@@ -18,7 +18,7 @@ returns g c =
       start = c.in_ok-begin.begin.start;
       begins = c.in_ok-begin.ensures;
       lawful = subst (λ (start : Journal). is_lawful limits rules start ≡ true)
-          c.as_slice-start.ensures c.in_ok-replay.ensures.lawful;
+          c.as_slice-start.ensures c.in_ok-replay.ensures.start;
       appendix_a = subst (λ (start : Journal). IfSome given
           (λ text. WritesRun rules start form text old new))
           c.as_slice-start.ensures c.in_ok-replay.ensures.appendix_a;

@@ -22,45 +22,44 @@ returns-in-Ok-print_table-clause-printed g c =
     ap (λ (d : DeskValue). d.entries) (sym c.in-Some.ensures.same)
     ∙ sym (ap (λ (board : BoardValue). board.entries) c.board.ensures.board) in
     record {
-      journal = c.board.result.now.entries;
-      begins = subst (IsPrefix c.args.start.journal)
+      table = record {
+        journal = c.board.result.now.entries;
+        begins = subst (IsPrefix c.args.start.journal)
+            (ap (λ (d : DeskValue). d.entries) (sym c.cover_note.ensures.same) ∙ shown)
+            c.cover_note.ensures.front;
+        lawful = rw (c.board.ensures.board) c.board.ensures.lawful;
+        covered = subst (λ (j : Journal). IsPrefix j c.in-Some.kept) shown c.in-Some.ensures.begins;
+        table = standing g.N.OfficeName.rules c.board.result.now.entries;
+        appendix_a = subst (λ (rules : RulesParts). IsAppendixA rules c.board.result.now.entries
+            (standing rules c.board.result.now.entries)) same c.in-Ok-print_table.ensures.appendix_a;
+        computed = refl;
+        wrote = subst (λ (rules : RulesParts). Appends (g.W.Device.contents c.args.output.now)
+            (g.W.Device.contents c.print_table.new.self)
+            (final_text rules Table c.board.result.now.entries)) same c.in-Ok-print_table.ensures.wrote;
+      };
+      at_most = at_most_printed g.W.Device.contents g.N.OfficeName.rules c.args.start.journal
+          c.args.output.now c.print_table.new.self c.board.result.now
+          (ap (λ (board : BoardValue). board.rules) c.board.ensures.board ∙ c.board.ensures.rules)
+          (subst (IsPrefix c.args.start.journal)
           (ap (λ (d : DeskValue). d.entries) (sym c.cover_note.ensures.same) ∙ shown)
-          c.cover_note.ensures.front;
-      lawful = rw (c.board.ensures.board) c.board.ensures.lawful;
-      covered = subst (λ (j : Journal). IsPrefix j c.in-Some.kept) shown c.in-Some.ensures.begins;
-      table = standing g.N.OfficeName.rules c.board.result.now.entries;
-      appendix_a = subst (λ (rules : RulesParts). IsAppendixA rules c.board.result.now.entries
-          (standing rules c.board.result.now.entries)) same c.in-Ok-print_table.ensures.appendix_a;
-      computed = refl;
-      wrote = subst (λ (rules : RulesParts). Appends (g.W.Device.contents c.args.output.now)
-          (g.W.Device.contents c.print_table.new.self)
-          (final_text rules Table c.board.result.now.entries)) same c.in-Ok-print_table.ensures.wrote;
+          c.cover_note.ensures.front) (rw (c.board.ensures.board) c.board.ensures.lawful)
+          c.print_table.ensures.appendix_a c.print_table.result c.print_table.ensures.wrote c.print_table.ensures.cut
+          c.print_table.ensures.silent;
     }
 
-pub returns-in-Ok-print_table-clause-at_most : goal.returns-in-Ok-print_table-clause-at_most
-returns-in-Ok-print_table-clause-at_most g c =
+pub returns-clause-printed : goal.returns-clause-printed
+returns-clause-printed g c =
     let shown : c.cover_note.new.self.entries ≡ c.board.result.now.entries =
     ap (λ (d : DeskValue). d.entries) (sym c.in-Some.ensures.same)
     ∙ sym (ap (λ (board : BoardValue). board.entries) c.board.ensures.board) in
-    at_most_printed g.W.Device.contents g.N.OfficeName.rules c.args.start.journal
-    c.args.output.now c.print_table.new.self c.board.result.now
-    (ap (λ (board : BoardValue). board.rules) c.board.ensures.board ∙ c.board.ensures.rules)
-    (subst (IsPrefix c.args.start.journal)
-    (ap (λ (d : DeskValue). d.entries) (sym c.cover_note.ensures.same) ∙ shown)
-    c.cover_note.ensures.front) (rw (c.board.ensures.board) c.board.ensures.lawful)
-    c.print_table.ensures.appendix_a c.print_table.result c.print_table.ensures.wrote c.print_table.ensures.cut
-    c.print_table.ensures.silent
-
-pub returns-clause-at_most : goal.returns-clause-at_most
-returns-clause-at_most g c =
-    let shown : c.cover_note.new.self.entries ≡ c.board.result.now.entries =
-    ap (λ (d : DeskValue). d.entries) (sym c.in-Some.ensures.same)
-    ∙ sym (ap (λ (board : BoardValue). board.entries) c.board.ensures.board) in
-    at_most_printed g.W.Device.contents g.N.OfficeName.rules c.args.start.journal
-    c.args.output.now c.print_table.new.self c.board.result.now
-    (ap (λ (board : BoardValue). board.rules) c.board.ensures.board ∙ c.board.ensures.rules)
-    (subst (IsPrefix c.args.start.journal)
-    (ap (λ (d : DeskValue). d.entries) (sym c.cover_note.ensures.same) ∙ shown)
-    c.cover_note.ensures.front) (rw (c.board.ensures.board) c.board.ensures.lawful)
-    c.print_table.ensures.appendix_a c.print_table.result c.print_table.ensures.wrote c.print_table.ensures.cut
-    c.print_table.ensures.silent
+    record {
+      table = tt;
+      at_most = at_most_printed g.W.Device.contents g.N.OfficeName.rules c.args.start.journal
+          c.args.output.now c.print_table.new.self c.board.result.now
+          (ap (λ (board : BoardValue). board.rules) c.board.ensures.board ∙ c.board.ensures.rules)
+          (subst (IsPrefix c.args.start.journal)
+          (ap (λ (d : DeskValue). d.entries) (sym c.cover_note.ensures.same) ∙ shown)
+          c.cover_note.ensures.front) (rw (c.board.ensures.board) c.board.ensures.lawful)
+          c.print_table.ensures.appendix_a c.print_table.result c.print_table.ensures.wrote c.print_table.ensures.cut
+          c.print_table.ensures.silent;
+    }

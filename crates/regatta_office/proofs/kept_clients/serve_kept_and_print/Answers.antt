@@ -8,6 +8,6 @@ returns-clause-count g c = if_ok c.serve_kept-back.result.0
       arith,
       back.ok,
       c.args.passes.ok,
-      as_many (λ p. p.seat) c.args.passes.items back.items same,
+      as_many (λ p. p.seat) c.args.passes.items back.items same.same,
     ))
-    c.serve_kept-back.ensures.seats
+    c.serve_kept-back.ensures.served.seats

@@ -19,45 +19,63 @@ loop-init g c = (
 )
 
 -- a read failed
-pub returns-in_default-clause-talked : goal.returns-in_default-clause-talked
-returns-in_default-clause-talked g c =
-    talked_fault _ _ _ _ _ _ _ _ c.loop.invariant.5
+pub returns-in_default-clause-served : goal.returns-in_default-clause-served
+returns-in_default-clause-served g c =
+    let talked = talked_fault _ _ _ _ _ _ _ _ c.loop.invariant.5
     (point c.loop.talk.role c.loop.pass (g.S.Device.contents c.read.new.self)
     (g.C.Covers.book c.loop.covers))
     (record { role = refl; pass = refl; written = c.in_default.ensures.keeps; book = refl })
-    _ c.in_default.ensures.bytes
-
-pub returns-in_default-clause-seat : goal.returns-in_default-clause-seat
-returns-in_default-clause-seat g c =
-    talked_seat _ _ _ _ _ _ _ _ _ _ (returns-in_default-clause-talked g c)
+    _ c.in_default.ensures.bytes in record {
+      session = record {
+        failed = search rules;
+        reads = search rules;
+        closed = search rules;
+        talked = talked;
+        sealed = search rules;
+        seat = talked_seat _ _ _ _ _ _ _ _ _ _ talked;
+      };
+      room = search rules;
+    }
 
 -- the stream is at its end
-pub returns-then-count-eq0-clause-talked : goal.returns-then-count-eq0-clause-talked
-returns-then-count-eq0-clause-talked g c =
-    talked_closed _ _ _ _ _ _ _ _ c.loop.invariant.5
+pub returns-then-count-eq0-clause-served : goal.returns-then-count-eq0-clause-served
+returns-then-count-eq0-clause-served g c =
+    let talked = talked_closed _ _ _ _ _ _ _ _ c.loop.invariant.5
     (point c.loop.talk.role c.loop.pass (g.S.Device.contents c.read.new.self)
     (g.C.Covers.book c.loop.covers))
     (record { role = refl; pass = refl; written = c.in-Ok.ensures.keeps; book = refl })
-    _ (rw c.if-count-eq0.true at c.in-Ok.ensures.bytes.0)
-
-pub returns-then-count-eq0-clause-seat : goal.returns-then-count-eq0-clause-seat
-returns-then-count-eq0-clause-seat g c =
-    talked_seat _ _ _ _ _ _ _ _ _ _ (returns-then-count-eq0-clause-talked g c)
+    _ (rw c.if-count-eq0.true at c.in-Ok.ensures.bytes.0) in record {
+      session = record {
+        failed = search rules;
+        reads = search rules;
+        closed = search rules;
+        talked = talked;
+        sealed = search rules;
+        seat = talked_seat _ _ _ _ _ _ _ _ _ _ talked;
+      };
+      room = search rules;
+    }
 
 -- a line has ended the session
-pub returns-in-Err-clause-talked : goal.returns-in-Err-clause-talked
-returns-in-Err-clause-talked g c =
-    talked_last _ _ _ _ _ _ _ _ c.loop.invariant.5
+pub returns-in-Err-clause-served : goal.returns-in-Err-clause-served
+returns-in-Err-clause-served g c =
+    let talked = talked_last _ _ _ _ _ _ _ _ c.loop.invariant.5
     (point c.loop.talk.role c.loop.pass (g.S.Device.contents c.read.new.self)
     (g.C.Covers.book c.loop.covers))
     (record { role = refl; pass = refl; written = c.in-Ok.ensures.keeps; book = refl })
-    _ _ _ c.in-Ok.ensures.bytes.0 c.take_all.ensures.keeps _ c.take_all.new.self.role _ _ _
+    _ _ _ c.in-Ok.ensures.bytes.0 c.take_all.ensures.unread.keeps _ c.take_all.new.self.role _ _ _
     (λ is. c.in-Err.ensures.at_line.2 (ap Err is))
-    c.in-Err.ensures.ended
-
-pub returns-in-Err-clause-seat : goal.returns-in-Err-clause-seat
-returns-in-Err-clause-seat g c =
-    talked_seat _ _ _ _ _ _ _ _ _ _ (returns-in-Err-clause-talked g c)
+    c.in-Err.ensures.ended in record {
+      session = record {
+        failed = search rules;
+        reads = search rules;
+        closed = search rules;
+        talked = talked;
+        sealed = search rules;
+        seat = talked_seat _ _ _ _ _ _ _ _ _ _ talked;
+      };
+      room = search rules;
+    }
 
 -- one piece more
 pub loop-preserved : goal.loop-preserved
@@ -71,6 +89,6 @@ loop-preserved g c = (
       (point c.loop.talk.role c.loop.pass (g.S.Device.contents c.read.new.self)
       (g.C.Covers.book c.loop.covers))
       (record { role = refl; pass = refl; written = c.in-Ok.ensures.keeps; book = refl })
-      _ _ _ c.in-Ok.ensures.bytes.0 c.take_all.ensures.keeps _ _
+      _ _ _ c.in-Ok.ensures.bytes.0 c.take_all.ensures.unread.keeps _ _
       c.in-Ok-take_all.ensures.goes_on,
 )

@@ -5,11 +5,17 @@ use Rattle.regatta_streams.proofs.KnownBytes.{keeps-then}
 use Rattle.regatta_streams.proofs.KnownBytes.{front-written, rest_split}
 use Rattle.regatta_streams.proofs.whole.write_all.Goals as goal
 
-pub returns-in_default-clause-cut : goal.returns-in_default-clause-cut
-returns-in_default-clause-cut g c =
-    let (done, split, wrote, same, unread, keeps) = c.loop-rest.invariant in
-    front-written _ _ c.args.bytes.now done c.loop-rest.rest.now split (search rules)
-    (appends-keeps _ _ _ done wrote c.in_default.ensures.bytes)
+pub returns-in_default : goal.returns-in_default
+returns-in_default g c =
+    let (done, split, wrote, same, unread, keeps) = c.loop-rest.invariant in record {
+      ok = search rules;
+      cut = front-written _ _ c.args.bytes.now done c.loop-rest.rest.now split (search rules)
+          (appends-keeps _ _ _ done wrote c.in_default.ensures.bytes);
+      well = search rules;
+      failed = search rules;
+      no_read = c.in_default.ensures.no_read ∙ unread;
+      keeps = keeps-then _ _ _ keeps c.in_default.ensures.keeps;
+    }
 
 pub loop-rest-preserved : goal.loop-rest-preserved
 loop-rest-preserved g c =
@@ -23,7 +29,3 @@ loop-rest-preserved g c =
       c.in-Ok.ensures.no_read ∙ unread,
       keeps-then _ _ _ keeps c.in-Ok.ensures.keeps,
     )
-
-pub returns-in_default-clause-keeps : goal.returns-in_default-clause-keeps
-returns-in_default-clause-keeps g c =
-    keeps-then _ _ _ c.loop-rest.invariant.5 c.in_default.ensures.keeps

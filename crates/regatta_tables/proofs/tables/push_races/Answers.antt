@@ -4,15 +4,11 @@ use Rattle.regatta_terms.specs.Words.{spaced}
 use Rattle.regatta_tables.proofs.LineFacts.{no_room_for_cells, start_stays}
 use Rattle.regatta_tables.proofs.tables.push_races.Goals as goal
 
-pub returns-in_err-push_pieces-clause-err : goal.returns-in_err-push_pieces-clause-err
-returns-in_err-push_pieces-clause-err c =
+pub returns-in_err-push_pieces : goal.returns-in_err-push_pieces
+returns-in_err-push_pieces c =
     let stays : take (vec_len c.args.out.now) c.push_pieces.new.out.items ≡ c.args.out.now.items =
     start_stays _ _ _ _ _ _ c.args.out.now.ok.0 c.loop-race.out.ok.0 c.loop-race.invariant.text
     c.in_err-push_pieces.ensures.err in
-    search rules
-
-pub returns-in_err-push_pieces-clause-full : goal.returns-in_err-push_pieces-clause-full
-returns-in_err-push_pieces-clause-full c =
     let word : c.as_bytes.result.now ≡ decimal c.race-item.result = cc in
     let next : vec_capacity c.loop-race.out < vec_len c.loop-race.out
     + length (32 ∷ decimal c.race-item.result) = omega (
@@ -26,4 +22,4 @@ returns-in_err-push_pieces-clause-full c =
     no_room_for_cells decimal c.args.races.now _ _ _ _ _ _ _ _ c.loop-race-test.true
     c.race-item.is c.loop-race.invariant.text c.args.out.now.ok.0 c.loop-race.out.ok.0
     c.loop-race.invariant.room next in
-    search rules
+    record { ok = search rules; err = search rules; room = search rules; full = search rules }

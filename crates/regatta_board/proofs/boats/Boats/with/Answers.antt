@@ -9,7 +9,7 @@ use Rattle.regatta_board.proofs.EntryList.{numbered_more, entries_cloned, no_num
 use Rattle.regatta_board.proofs.boats.Boats.with.Goals as goal
 
 added : (c : goal.In_ok-insert) → c.insert.new.self.entries ≡ c.self.inside.numbers.entries
-    ++ (c.args.boat, c.len.result) ∷ []
+    ++ (c.args.boat, c.next_number.result) ∷ []
 added c =
     let es = c.self.inside.numbers.entries in
     let cloned : c.in_ok-numbers.numbers.entries ≡ es =
@@ -19,18 +19,18 @@ added c =
     ap (λ entries. list_any (same_sail c.args.boat) (keys_of entries)) cloned
     ∙ ap (list_any (same_sail c.args.boat)) c.self.view_is ∙ c.requires.new in
     c.in_ok-insert.ensures.entries
-    ∙ insert_entry-new same_sail c.in_ok-numbers.numbers c.args.boat c.len.result
+    ∙ insert_entry-new same_sail c.in_ok-numbers.numbers c.args.boat c.next_number.result
     (no_number c.in_ok-numbers.numbers.entries c.args.boat out)
-    ∙ ap (λ entries. entries ++ (c.args.boat, c.len.result) ∷ []) cloned
+    ∙ ap (λ entries. entries ++ (c.args.boat, c.next_number.result) ∷ []) cloned
 
 pub invariant_of-result : goal.invariant_of-result
 invariant_of-result c =
     let es = c.self.inside.numbers.entries in
-    let long : c.len.result ≡ length es = c.len.ensures ∙ ap length (sym c.self.view_is)
+    let long : c.next_number.result ≡ length es = c.next_number.ensures ∙ ap length (sym c.self.view_is)
     ∙ length-map es (λ e. e.0) in
     subst IsNumbered (sym (added c))
-    (numbered_more es c.args.boat c.len.result long c.self.invariant)
+    (numbered_more es c.args.boat c.next_number.result long c.self.invariant)
 
 pub returns : goal.returns
-returns c = listed c.self.inside.numbers.entries c.insert.new.self.entries c.args.boat c.len.result
+returns c = listed c.self.inside.numbers.entries c.insert.new.self.entries c.args.boat c.next_number.result
     (added c) ∙ ap (λ boats. boats ++ c.args.boat ∷ []) c.self.view_is

@@ -11,7 +11,8 @@ returns-in-Err-2 c role =
     let sails = entered c.args.self.now.entries in
     let out = c.in-Err-2.ensures.out in
     let room = sym c.is_full.ensures ∙ c.if-is_full.false in
-    let number = c.boats.ensures ∙ ap (λ (k : Kept). length k.sails) c.kept.ensures.value
+    let number = c.next_number.ensures ∙ ap length c.entry_list.ensures
+    ∙ ap (λ (k : Kept). length k.sails) c.kept.ensures.value
     ∙ index_past (same_sail c.args.sail) sails out in (
       rw (out, room) refl,
       record {

@@ -1,10 +1,10 @@
-use Rattle.std.proofs.Common.{◌≡◌, ◌-◌, ◌∙◌, [], ap, arith, refl, sym, subst, map, get_or, length, All}
+use Rattle.std.proofs.Common.{◌≡◌, ◌∙◌, ap, arith, refl, sym, subst, length, All}
 use Rattle.std.proofs.Common.{IsPermutation}
 use Rattle.std.specs.List.{range_with_len}
 use Rattle.std.proofs.lemmas.List.{length-map}
 use Rattle.regatta_scores.specs.Ranking.{BoatScores, place, places}
-use Rattle.regatta_board.specs.Scoring.{Scoring, lines_by}
-use Rattle.regatta_board.specs.Table.{Kept, columns, races, rows_by}
+use Rattle.regatta_board.specs.Scoring.{Scoring, columns_in, lines_by}
+use Rattle.regatta_board.specs.Table.{columns, races, rows_by}
 use Rattle.regatta_board.proofs.Columns.{columns_few, races_few}
 use Rattle.regatta_board.proofs.Lines.{rows_are}
 use Rattle.regatta_board.proofs.ScoringFacts.{found_columns, found_even, lines_by_long, all_long}
@@ -22,14 +22,14 @@ places-requires-clause-few c =
 
 -- ---- what the rows are made of
 
-boats : (c : goal.After-as_slice-2) → c.boats.result.now ≡ c.args.kept.now.sails
-boats c = c.boats.ensures ∙ ap (λ (k : Kept). k.sails) c.of-draft.ensures
+boats : (c : goal.After-as_slice-2) → c.entry_list.result.now ≡ c.args.kept.now.sails
+boats c = c.entry_list.ensures
 
 ls : (c : goal.After-as_slice-2) → c.deref-5.result.now ≡ c.args.self.now.lines
 ls c = c.deref-5.ensures.value ∙ ap (λ (s : Scoring). s.lines) c.self.view_is
 
 -- there is a line for each boat
-many : (c : goal.After-as_slice-2) → length c.args.self.now.lines ≡ length c.boats.result.now
+many : (c : goal.After-as_slice-2) → length c.args.self.now.lines ≡ length c.entry_list.result.now
 many c = ap length c.requires.scoring.1.lines
     ∙ lines_by_long c.requires.scoring.0 c.args.kept.now ∙ ap length (sym (boats c))
 
@@ -38,12 +38,12 @@ rs c = c.deref-2.ensures.value ∙ c.in_ok-races.ensures.items ∙ c.as_slice.en
     ∙ ap (λ (s : Scoring). s.races) c.self.view_is ∙ c.requires.scoring.1.races
 
 each : (c : goal.After-as_slice-2) → c.deref-4.result.now
-    ≡ map (λ race. get_or c.args.self.now.columns (race - 1) []) c.deref-2.result.now
+    ≡ columns_in c.args.self.now.columns c.deref-2.result.now
 each c =
     let cols : c.deref.result.now ≡ c.args.self.now.columns =
     c.deref.ensures.value ∙ ap (λ (s : Scoring). s.columns) c.self.view_is in
     c.deref-4.ensures.0 ∙ c.push_columns.ensures
-    ∙ (λ i. map (λ race. get_or (cols i) (race - 1) []) c.deref-2.result.now)
+    ∙ (λ i. columns_in (cols i) c.deref-2.result.now)
 
 found : (c : goal.After-as_slice-2) → c.deref-4.result.now
     ≡ columns c.requires.scoring.0 c.args.kept.now.sheets (races c.args.kept.now.counts)
@@ -66,7 +66,7 @@ sorted_rows-requires-clause-ranking c =
 pub sorted_rows-requires-clause-even : goal.sorted_rows-requires-clause-even
 sorted_rows-requires-clause-even c =
     found_even c.requires.scoring.0 c.args.kept.now c.requires.kept _
-    c.requires.scoring.1.columns (rs c) (each c) (length c.boats.result.now) (ap length (boats c))
+    c.requires.scoring.1.columns (rs c) (each c) (length c.entry_list.result.now) (ap length (boats c))
 
 pub sorted_rows-requires-clause-lines : goal.sorted_rows-requires-clause-lines
 sorted_rows-requires-clause-lines c = ap length (ls c) ∙ many c
@@ -100,17 +100,16 @@ returns c rules is =
     let ps : c.as_slice-2.result.now ≡ places c.args.self.now.lines =
     c.as_slice-2.ensures ∙ c.in_ok-places.ensures
     ∙ ap places (c.deref-3.ensures.value ∙ ap (λ (s : Scoring). s.lines) c.self.view_is) in
-    let boats : c.boats.result.now ≡ c.args.kept.now.sails =
-    c.boats.ensures ∙ ap (λ (k : Kept). k.sails) c.of-draft.ensures in
+    let boats : c.entry_list.result.now ≡ c.args.kept.now.sails = c.entry_list.ensures in
     let counted : c.in_ok-races.races.items ≡ races c.args.kept.now.counts =
     c.in_ok-races.ensures.items ∙ c.as_slice.ensures
     ∙ ap (λ (s : Scoring). s.races) c.self.view_is ∙ is.races in
     let rs : c.deref-2.result.now ≡ races c.args.kept.now.counts =
     c.deref-2.ensures.value ∙ counted in
     let each : c.deref-4.result.now
-    ≡ map (λ race. get_or c.args.self.now.columns (race - 1) []) c.deref-2.result.now =
+    ≡ columns_in c.args.self.now.columns c.deref-2.result.now =
     c.deref-4.ensures.0 ∙ c.push_columns.ensures
-    ∙ (λ i. map (λ race. get_or (cols i) (race - 1) []) c.deref-2.result.now) in
+    ∙ (λ i. columns_in (cols i) c.deref-2.result.now) in
     let found = found_columns rules c.args.kept.now c.requires.kept _ is.columns rs each in
     let all = columns rules c.args.kept.now.sheets (races c.args.kept.now.counts) in
     let races_are = c.new.ensures ∙ counted in

@@ -19,9 +19,10 @@ returns-clause-answered g c =
     let told : c.tell.new.pass ≡ with_told before found.entries =
     c.tell.ensures.pass
     ∙ (λ k. with_told (c.confirm.ensures.same.1 k) (sym c.tell.ensures.same k).entries) in
-    let (reply, replied, text) = c.answer-reply.ensures.answered in (
-      c.answer-reply.new.desk.entries,
-      record {
+    let (reply, replied, text) = c.answer-reply.ensures.answered in
+    record {
+      made_from = c.answer-reply.new.desk.entries;
+      answered = record {
         found = found;
         left = c.answer-reply.new.desk;
         reply = reply;
@@ -35,6 +36,6 @@ returns-clause-answered g c =
             c.args.self.now.role found c.answer-reply.new.desk p c.answer-reply.new.pass reply) told replied;
         text = text;
         made = refl;
-      },
-      c.answer-reply.ensures.needs,
-    )
+      };
+      needs = c.answer-reply.ensures.needs;
+    }

@@ -29,7 +29,7 @@ loop-byte-preserved g c =
             (get_or piece i 0) _ _ (search rules) refl (search rules) (search rules)
             (search rules) (search rules) c.loop-byte.invariant.went;
         keeps = rw (w.stream-is) (keeps-then _ _ _ c.loop-byte.invariant.keeps
-            w.answer_line.ensures.keeps);
+            w.answer_line.ensures.unread.keeps);
       }
       | else-take w ↦ record {
         well = search rules;

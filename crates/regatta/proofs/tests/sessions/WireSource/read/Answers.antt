@@ -1,0 +1,24 @@
+use Rattle.std.proofs.Common.{rules}
+use Rattle.regatta.proofs.tests.sessions.WireSource.read.Goals as goal
+
+pub returns-in-Ok : goal.returns-in-Ok
+returns-in-Ok c = record {
+  bound = search rules;
+  bytes = search rules;
+  keeps = search rules;
+  well = search rules;
+  failed = search rules;
+  reads_well = search rules;
+  read_failed = search rules;
+}
+
+pub returns-in-Err : goal.returns-in-Err
+returns-in-Err c = record {
+  bound = search rules;
+  bytes = search rules;
+  keeps = search rules;
+  well = search rules;
+  failed = search rules;
+  reads_well = search rules;
+  read_failed = search rules;
+}

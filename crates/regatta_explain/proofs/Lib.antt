@@ -1,0 +1,3 @@
+pub mod TwoPieces
+pub mod Unlike
+pub mod Zips

@@ -1,0 +1,12 @@
+use Rattle.regatta_json.proofs.Texts.{five_parts}
+use Rattle.regatta_explain.specs.Rows.{rules_text}
+use Rattle.regatta_explain.proofs.series.push_rules.Goals as goal
+
+pub returns-clause-ok : goal.returns-clause-ok
+unfolding rules_text
+returns-clause-ok c =
+    five_parts _ _ _ _ _ _ _ _ _ _ _ c.in_ok-push_absent.ensures.ok
+    c.in_ok-push_amount.ensures.ok
+    c.in_ok-push_named_thresholds.ensures.ok
+    c.in_ok-push_flag.ensures.ok
+    c.in_ok-push_pieces.ensures.ok

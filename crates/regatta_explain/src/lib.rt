@@ -1,0 +1,25 @@
+//! The standing of a series explained: for each race and each boat the numbers that lead to the
+//! table, and the rule that separates boats with the same series score.
+//!
+//! A document is one JSON object. It has sails, numbers and fixed words alone.
+#![tactic(auto)]
+
+mod averaging;
+mod boats;
+mod documents;
+mod fields;
+mod makers;
+mod parts;
+mod races;
+mod separations;
+mod series;
+mod ties;
+
+pub use averaging::averaged_races;
+pub use documents::write_document;
+pub use makers::{last_entry, place_of, ranks_after};
+pub use parts::{
+    BoatPart, BoatRows, Compared, Document, GroupPart, HeldPart, NeighbourPart, RacePart, RaceRows,
+    RankPart, RanksAfter, RulesPart, ScorePart, Separation,
+};
+pub use separations::{first_difference, last_difference, separation_of};

@@ -1,0 +1,297 @@
+"""What strangers in the network, and whoever has a link that has got about, can't do to the office."""
+from __future__ import annotations
+
+import asyncio
+import contextlib
+import io
+import logging
+import socket
+import ssl
+import threading
+import unittest
+from unittest import mock
+
+import helpers
+from raceoffice.results.http_answers import Board
+from raceoffice.web.gate import DEVICES, QUIET, Gate, plain_name
+from raceoffice.web.hosting import PIECE, Host
+from raceoffice.web.page_news import PageNews
+from raceoffice.web.rates import Rate
+from raceoffice.web.requests import Reply, Request, Wrong
+from web_devices import Web
+
+GET = b"GET / HTTP/1.1\r\n\r\n"
+
+
+class Connections(unittest.IsolatedAsyncioTestCase):
+    async def asyncSetUp(self) -> None:
+        loop = asyncio.get_running_loop()
+        loop.set_exception_handler(lambda *_: None)
+        loop.slow_callback_duration = helpers.PATIENCE
+        self.data, self.answered, self.door = b"x" * (1 << 20), 0, ("127.0.0.1", helpers.free_port(self))
+
+        async def answer(request: Request) -> Reply:
+            self.answered += 1
+            return Reply(kind="text/plain", data=self.data)
+
+        self.host = Host(answer, lambda _: 0, self.fail, lambda request: request.fields.get("cookie", ""))
+        # However slow this computer is, those who say nothing stay.
+        patch = mock.patch("raceoffice.web.requests.IDLE", 10 * helpers.PATIENCE)
+        patch.start()
+        self.addCleanup(patch.stop)
+
+    async def until(self, holds: object) -> None:
+        """Waits until a condition holds."""
+        assert callable(holds)
+        for _ in range(int(helpers.PATIENCE * 100)):
+            if holds():
+                return
+            await asyncio.sleep(0.01)
+        self.fail("it didn't come about")
+
+    def deaf(self) -> socket.socket:
+        """A connection that takes next to nothing of what is sent."""
+        link = socket.socket()
+        self.addCleanup(link.close)
+        link.setsockopt(socket.SOL_SOCKET, socket.SO_RCVBUF, 1)
+        link.connect(self.door)
+        return link
+
+    async def test_asked_in_advance(self) -> None:
+        """Somebody asks very often in one go and takes no answer: once the connection is cut off, the rest isn't answered."""
+        await self.host.start(*self.door, None)
+        with mock.patch("raceoffice.web.hosting.SLOW", 0.2):
+            self.deaf().sendall(GET * 500)
+            await self.until(lambda: self.answered and not self.host.open)
+        self.assertLess(self.answered, 20)
+
+    def test_nothing_printed(self) -> None:
+        """What clients do to connections isn't printed: a terminal that was stopped would hold up everybody."""
+        with contextlib.redirect_stderr(io.StringIO()) as printed:
+            logging.getLogger("asyncio").warning("socket.send() raised exception.")
+        self.assertEqual(printed.getvalue(), "")
+
+    async def test_in_pieces(self) -> None:
+        """Of an answer that nobody takes this process holds a piece or two, and no copy."""
+        writers: list[asyncio.StreamWriter] = []
+        drain = asyncio.StreamWriter.drain
+
+        async def noted(writer: asyncio.StreamWriter) -> None:
+            writers.append(writer)
+            await drain(writer)
+
+        self.data = b"x" * (16 << 20)
+        await self.host.start(*self.door, None)
+        with mock.patch.object(asyncio.StreamWriter, "drain", noted):
+            self.deaf().sendall(GET)
+            await self.until(lambda: writers)
+            await asyncio.sleep(0.1)
+        self.assertLessEqual(writers[-1].transport.get_write_buffer_size(), 3 * PIECE)
+
+    async def test_same_address(self) -> None:
+        """An address has all the connections that it may have: one more comes in for the one that came first and has asked for
+        nothing, else for a stranger's, and for that of a device last. A device stays one, whatever it asks for next."""
+        self.data = b"ok"
+        await self.host.start(*self.door, None)
+        self.host.most_of_one = 4
+        links: list[tuple[asyncio.StreamReader, asyncio.StreamWriter]] = []
+
+        async def ask(reader: asyncio.StreamReader, writer: asyncio.StreamWriter, text: bytes) -> None:
+            writer.write(text)
+            self.assertTrue((await reader.readuntil(b"ok")).startswith(b"HTTP/1.1 200"))
+
+        async def come(text: bytes) -> None:
+            reader, writer = await asyncio.open_connection(*self.door, local_addr=("127.0.0.2", 0))
+            self.addCleanup(writer.transport.abort)
+            links.append((reader, writer))
+            if text:
+                await ask(reader, writer, text)
+            await self.until(lambda: len(self.host.visits["127.0.0.2"]) == min(4, len(links)))
+
+        def known() -> list[int]:
+            return [len(level) for level in self.host.visits["127.0.0.2"].known]
+
+        device = b"GET / HTTP/1.1\r\nCookie: Ann\r\n\r\n"
+        for text in (device, b"", GET, b""):
+            await come(text)
+        self.assertEqual(known(), [2, 1, 1])
+        await ask(*links[0], GET)
+        for text, wanted in ((GET, [1, 2, 1]), (device, [0, 2, 2]), (device, [0, 1, 3]), (GET, [0, 1, 3])):
+            await come(text)
+            self.assertEqual(known(), wanted)
+        # Those that were given up have ended, in this order.
+        self.assertEqual([await links[at][0].read() for at in (1, 3, 2, 4)], [b""] * 4)
+        await self.until(lambda: (self.host.open, self.host.ending) == (4, 0))
+
+    async def test_given_up_at_its_end(self) -> None:
+        """A connection that is given up while it ends has left its socket: the next one that has its number is heard."""
+        self.data, begun = b"ok", asyncio.Event()
+        closed = asyncio.StreamWriter.wait_closed
+
+        async def slow(writer: asyncio.StreamWriter) -> None:
+            begun.set()
+            await asyncio.sleep(helpers.PATIENCE)
+            await closed(writer)
+
+        await self.host.start(*self.door, None)
+        with mock.patch.object(asyncio.StreamWriter, "wait_closed", slow), mock.patch("raceoffice.web.hosting.MOMENT", helpers.PATIENCE):
+            link = self.deaf()
+            link.sendall(b"GET / HTTP/1.1\r\nConnection: close\r\n\r\n")
+            await asyncio.wait_for(begun.wait(), helpers.PATIENCE)
+            aborted = mock.Mock(side_effect=asyncio.selector_events._SelectorSocketTransport.abort)  # type: ignore[attr-defined]
+            with mock.patch.object(asyncio.selector_events._SelectorSocketTransport, "abort", lambda own: aborted(own)):  # type: ignore[attr-defined]
+                self.host.give_up(self.host.visits["127.0.0.1"])
+                await self.until(lambda: not self.host.open)
+        self.assertTrue(aborted.called)
+
+    async def test_files_left(self) -> None:
+        """Files are left to the rest of the process, for many classes; by HTTPS there are fewer connections."""
+        secure = ssl.SSLContext(ssl.PROTOCOL_TLS_SERVER)
+        for files, context, most in ((1 << 20, None, 8192), (8704, None, 8192), (4096, None, 3584), (1024, None, 768),
+                                     (256, None, 192), (8704, secure, 2048), (1024, secure, 768)):
+            with self.subTest(files=files), mock.patch("raceoffice.system.room_for_files", lambda most: min(most, files)):
+                host = Host(self.host.answer, self.host.room, self.fail)
+                await host.start("127.0.0.1", helpers.free_port(self), context)
+                self.assertEqual(host.most, most)
+                self.assertGreaterEqual(host.most_of_one, min(2000, most // 2))
+                self.assertLessEqual(most + host.most_ending, files)
+                host.close()
+
+    async def test_gone_before_the_news(self) -> None:
+        """A client that has gone before its news begins is no fault: by HTTPS its connection has no socket any more."""
+        board = Board()
+        board.put({"/cup/": ("text/html; charset=utf-8", b""), "/cup/now.json": ("application/json", b"{}\n")})
+        writer = mock.Mock()
+        writer.get_extra_info.return_value = None
+        news = PageNews(board, 0.01)
+        await news.serve(asyncio.StreamReader(), writer, "/cup/", True)
+        self.assertEqual((news.lookers, writer.write.called), ({}, False))
+
+
+class Links(unittest.TestCase):
+    """A link that has got about."""
+
+    def setUp(self) -> None:
+        self.gate = Gate("")
+        self.gate.coming = Rate(1000, 0)
+        self.keys = {role: self.gate.new_key(role) for role in ("FINISH", "JURY")}
+        self.now = self.gate.clock.now()
+        clock = mock.patch.object(self.gate.clock, "now", lambda: self.now)
+        clock.start()
+        self.addCleanup(clock.stop)
+
+    def come(self, name: str = "iPhone", role: str = "FINISH", address: str = "127.0.0.1") -> str:
+        """The mark of a device that comes by the link of a role."""
+        before = set(self.gate.devices)
+        self.gate.enter(Request("POST", "/", {}, address), role, self.keys[role], name)
+        return next(iter(set(self.gate.devices) - before))
+
+    def names(self) -> set[str]:
+        return {device.name for device in self.gate.devices.values()}
+
+    def test_put_out(self) -> None:
+        """Whoever finds a phone that was put out can't come in again by the link that it has: that has ended. Other devices
+        and links stay, and so they do if a device leaves by itself."""
+        lost, boat, jury = self.come("lost"), self.come("boat"), self.come("jury", "JURY")
+        self.gate.revoke(boat, False)
+        self.come("boat")
+        self.gate.revoke(lost)
+        self.assertRaisesRegex(Wrong, "isn't valid any more", self.come)
+        self.assertEqual(self.names(), {"boat (2)", "jury"})
+        self.come("second", "JURY")
+        self.keys["FINISH"] = self.gate.new_key("FINISH", False)
+        self.come("next")
+        self.assertIn(jury, self.gate.devices)
+
+    def test_one_too_many(self) -> None:
+        """However many come by a link, no device is put out that was heard within the hour, or waits for news."""
+        boat, *others = [self.come(f"boat {number}") for number in range(DEVICES)]
+        self.come("jury", "JURY")
+        self.assertRaisesRegex(Wrong, "as many devices as it may have", self.come, "one more")
+        self.now += QUIET
+        for mark in others[1:]:
+            self.gate.devices[mark].heard = self.now
+        self.gate.watching = lambda: [boat]
+        self.come("one more")
+        self.assertIn(boat, self.gate.devices)
+        self.assertNotIn(others[0], self.gate.devices)
+        self.assertRaisesRegex(Wrong, "as many devices as it may have", self.come, "another")
+        self.gate.watching = lambda: []
+        self.come("another")
+        self.assertNotIn(boat, self.gate.devices)
+
+    def test_taps_that_wait(self) -> None:
+        """A device that holds taps is put out for no other, however long it wasn't heard."""
+        boat, *_ = [self.come(f"boat {number}") for number in range(DEVICES)]
+        self.gate.devices[boat].unsent = 1
+        self.now += 2 * QUIET
+        for number in range(DEVICES - 1):
+            self.come(f"stranger {number}")
+        self.assertRaisesRegex(Wrong, "as many devices as it may have", self.come, "one more")
+        self.assertIn(boat, self.gate.devices)
+
+    def test_link_that_ends_meanwhile(self) -> None:
+        """Somebody comes by a link that ends while the gate is changed: it isn't valid any more."""
+        ends: list[int] = []
+
+        def enter() -> None:
+            with self.assertRaises(Wrong) as wrong:
+                self.come()
+            ends.append(wrong.exception.status)
+
+        with self.gate.changing():
+            coming = threading.Thread(target=enter)
+            coming.start()
+            coming.join(0.2)
+            self.gate.keys["FINISH"] = "another"
+        coming.join()
+        self.assertEqual(ends, [403])
+
+    def test_names_used_up(self) -> None:
+        """Devices come by the links of a role only so often: the names of those that were put out are theirs for hours."""
+        gate = Gate("")
+        self.gate, self.keys = gate, {"FINISH": gate.new_key("FINISH")}
+        gate.revoke(self.come("Committee boat"), False)
+        for _ in range(1000):
+            with contextlib.suppress(Wrong):
+                gate.revoke(self.come(), False)
+        gate.coming = Rate(1, 0)
+        self.come("Committee boat")
+        self.assertEqual(self.names(), {"Committee boat (2)"})
+
+    def test_composed(self) -> None:
+        """Names that look the same are the same, however their letters are composed."""
+        self.assertEqual(plain_name("Zoe\u0308"), plain_name("Zo\u00eb"))
+        self.assertEqual(plain_name("W" * 29 + " x"), "W" * 29)
+
+    def test_wrong_tries(self) -> None:
+        """Whoever has the link comes in, however many try others from the same address."""
+        key = self.keys["FINISH"]
+        self.keys["FINISH"] = "A" * 22
+        tried: list[int] = []
+        for _ in range(30):
+            with self.assertRaises(Wrong) as wrong:
+                self.come()
+            tried.append(wrong.exception.status)
+        self.assertEqual((tried[0], tried[-1]), (403, 429))
+        self.keys["FINISH"] = key
+        self.come()
+
+
+class Waiting(Web):
+    def test_heard_while_it_waits_for_news(self) -> None:
+        """A phone that waits for news counts as heard, though it sends nothing for hours."""
+        phone = self.device("finish", "boat")
+        with socket.create_connection(("127.0.0.1", self.port), timeout=helpers.PATIENCE) as link:
+            link.sendall(f"GET /office/finish/live HTTP/1.1\r\nHost: 127.0.0.1\r\nCookie: {phone.cookie}\r\n\r\n".encode())
+            self.assertIn(b"200 OK", link.recv(4096))
+            for number in range(DEVICES + 5):
+                try:
+                    self.device("finish", f"stranger {number}")
+                except AssertionError as refused:
+                    self.assertIn("devices-full", str(refused))
+        self.assertEqual(phone.ask("GET", "/office/finish/me")[0], 200)
+
+
+if __name__ == "__main__":
+    unittest.main()
