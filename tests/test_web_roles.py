@@ -3,7 +3,9 @@ from __future__ import annotations
 
 import json
 import os
+import re
 import signal
+import threading
 import unittest
 from typing import Any
 from unittest import mock
@@ -283,6 +285,23 @@ class Offices(Web):
         self.assertNotIn("These may still write", self.said())
         self.web.send_signal(signal.SIGINT)
         self.assertEqual(self.web.wait(helpers.PATIENCE), 0)
+
+    def test_interrupted_while_it_closes(self) -> None:
+        """Once is enough, too, while an office is being closed on its page: nobody may write any more."""
+        self.device("finish").tap("FINISH 1 GBR101")
+        scorer, program = self.device("scorer"), int(self.text("cup", "office", "pid").split()[0])
+        helpers.freeze(program)
+        closing = threading.Thread(target=scorer.ask, args=("POST", "/office/scorer/close/cup", {}), daemon=True)
+        closing.start()
+        try:
+            helpers.until("the closing", lambda: os.path.exists(os.path.join(self.here, "cup", "office", "closing")))
+            self.web.send_signal(signal.SIGINT)
+            helpers.until("what Ctrl-C does", lambda: re.search("These may still write|Closing the office", self.said()))
+        finally:
+            os.kill(program, signal.SIGCONT)
+        self.assertNotIn("These may still write", self.said())
+        self.assertEqual(self.web.wait(helpers.PATIENCE), 0)
+        closing.join(helpers.PATIENCE)
 
     def test_taken_over(self) -> None:
         """A program whose web was killed is taken over by the next, and closed in order at its end."""

@@ -70,6 +70,10 @@ class KeptOffice:
             return True in system.sockets_at(self.folder.socket)
         return False
 
+    def takes_lines(self) -> bool:
+        """Whether this process keeps an office that isn't being closed for good."""
+        return self.keeping is not None and (self.comes_back or not self.is_asked_to_close)
+
     def second_trouble(self) -> str:
         """Why an office that this process keeps has no second copy; empty if it has one."""
         keeping = self.keeping

@@ -164,15 +164,16 @@ class WebOffice:
         return any(one.office.keeping for one in self.classes.values())
 
     def writers(self) -> list[str]:
-        """The devices that may still write to an office that this process keeps, with their roles."""
-        if not self.keeps_any():
+        """The devices that may still write to an office that this process keeps, with their roles. Nobody writes to
+        one that is being closed."""
+        if not any(one.office.takes_lines() for one in self.classes.values()):
             return []
         return [f"{device.name} ({device.role.lower()}{taps_held(device.unsent)})" for device in self.gate.devices.values()
                 if device.heard > self.gate.clock.now() - RECENT or device.unsent and self.gate.lets_in(device.mark)]
 
     def places_kept(self) -> list[str]:
-        """The places of finishers without a sail in each office that this process keeps, as sentences."""
-        kept = [(name, one.room.history.waiting.all) for name, one in self.classes.items() if one.office.keeping]
+        """The places of finishers without a sail in each office that this process keeps and isn't closing, as sentences."""
+        kept = [(name, one.room.history.waiting.all) for name, one in self.classes.items() if one.office.takes_lines()]
         return [f"{name}: {remark('places-kept', places=places_by_race(waiting))}" for name, waiting in kept if waiting]
 
     def close(self) -> None:
