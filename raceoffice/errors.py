@@ -66,6 +66,10 @@ class Fault(Trouble):
     """A fault of this package itself, of which only its trace says more."""
 
 
+class Stopped(Exception):
+    """Somebody stopped what was going on while something was asked: that is no answer."""
+
+
 class Unheard(OSError):
     """Why what is said can't be written, as on a full disk. Whoever reads a pipe may have gone, too: that
     is a BrokenPipeError."""

@@ -14,7 +14,7 @@ import unicodedata
 from collections.abc import Callable
 
 from raceoffice.characters import code_of
-from raceoffice.errors import Explained, Unheard, said_of
+from raceoffice.errors import Explained, Stopped, Unheard, said_of
 from raceoffice.remarks import Remark
 
 # Control signs, signs of direction and of no width, and ends of lines that an editor doesn't show.
@@ -181,8 +181,9 @@ def sentence(text: object) -> str:
     return one.in_words(words) if isinstance(one, Remark) else words
 
 
-def typed(text: str, is_over: Callable[[], bool] | None = None) -> str | None:
-    """What somebody types to a question; None at the end of the input, after Ctrl-C, and once it `is_over`."""
+def typed(text: str, is_over: Callable[[], bool] | None = None, is_stopped: bool = False) -> str | None:
+    """What somebody types to a question; None at the end of the input, after Ctrl-C, and once it `is_over`. Ctrl-C is
+    Stopped where that `is_stopped` by it."""
     try:
         *lines, asked = wrapped(text).split("\n")
         for line in lines:
@@ -191,8 +192,10 @@ def typed(text: str, is_over: Callable[[], bool] | None = None) -> str | None:
             return input(asked).strip()
         print(asked, end="", flush=True)
         given = line_before(is_over) if is_over else TYPED.line() or ""
-    except (EOFError, KeyboardInterrupt):
+    except (EOFError, KeyboardInterrupt) as cause:
         print(flush=True)
+        if is_stopped and isinstance(cause, KeyboardInterrupt):
+            raise Stopped from None
         return None
     if not sys.stdin.isatty():
         say(given)
@@ -218,11 +221,12 @@ def answer(text: str) -> str:
 
 
 def question(text: str, yes: bool = False, tell: Callable[[str], None] = lambda given: None,
-             is_over: Callable[[], bool] | None = None) -> bool:
+             is_over: Callable[[], bool] | None = None, is_stopped: bool = False) -> bool:
     """Whether somebody says yes. Enter alone is the capital letter. Ctrl-C and the end of the input are
-    no, and so is a question that `is_over`. Whatever is neither yes nor no is told, and asked again."""
+    no, and so is a question that `is_over`; but Ctrl-C is Stopped where that `is_stopped` by it. Whatever is neither yes
+    nor no is told, and asked again."""
     asked = f"{text} [{'Y/n' if yes else 'y/N'}] "
-    while (given := typed(asked, is_over)) is not None:
+    while (given := typed(asked, is_over, is_stopped)) is not None:
         meant = is_yes(given, yes and sys.stdin.isatty())
         if meant is not None:
             return meant

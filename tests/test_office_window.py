@@ -196,11 +196,27 @@ class Stopped(Windows):
         self.assertIn("GBR101", self.text("cup", self.newest_copy()))
         self.assertEqual(status, 0)
 
+    def test_killed_while_it_closes(self) -> None:
+        """A window is killed while it closes the office and waits for somebody who hangs on: the program lets nobody in.
+        Whoever opens the office ends that, and goes on from all that it has answered."""
+        window, link = self.open(), self.link()
+        link.ask("ROLE FINISH")
+        link.ask("FINISH 1 GBR101")
+        window.process.kill()
+        window.process.wait()
+        office_process.OfficeProcess(Folder(self.path())).use_up()
+        again = self.window("open", "cup")
+        again.read(r"Take it over\? \[Y/n\] $")
+        again.say("y", "The office is open")
+        self.assertEqual(self.text("cup", "journal.txt").splitlines()[-1], "2 1 FINISH FINISH 1 GBR101")
+        again.press()
+        self.assertEqual(again.rest()[1], 0)
+
     def taken_over(self) -> office_process.OfficeProcess:
         """A running office, as the window sees it that takes it over."""
         found = office_process.OfficeProcess(Folder(self.path()))
         self.assertTrue(found.lock.is_taken())
-        found.take_over(lambda _: True)
+        self.assertTrue(found.is_taken_over(lambda _: True))
         return found
 
 
@@ -281,6 +297,25 @@ class Questions(Windows):
         opened.terminate()
         self.assertTrue(any(" Closed. " in line for line in lines))
         self.assertEqual(opened.wait(helpers.PATIENCE), 0)
+
+    def test_ctrl_c_at_opening(self) -> None:
+        """Ctrl-C at the question about other rules opens nothing; no opens the office by those before."""
+        window = self.open()
+        window.press()
+        window.rest()
+        self.write(self.text("cup", "series.ini").replace("exclude = 2", "exclude = none"), "cup", "series.ini")
+        window = self.window("open", "cup")
+        window.read(r"\[y/N\] $")
+        window.press()
+        said, status = window.rest()
+        self.assertIn("Nothing was opened.", said)
+        self.assertEqual(status, 130)
+        self.assertFalse(os.path.exists(self.path("office", "race.sock")))
+        window = self.window("open", "cup")
+        window.read(r"\[y/N\] $")
+        window.say("n", "The office is open")
+        window.press()
+        self.assertEqual(window.rest()[1], 0)
 
     def test_typed_before(self) -> None:
         """Two answers in one pipe are two answers."""

@@ -67,6 +67,7 @@ class Opening(helpers.Series):
                 said, status = window.rest()
                 self.assertEqual(status, wanted, said)
                 self.assertNotIn("Closing", said)
+                self.assertNotIn("fault", said)
                 self.need_closed()
 
     def test_terminal_gone(self) -> None:

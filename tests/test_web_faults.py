@@ -2,6 +2,7 @@
 from __future__ import annotations
 
 import asyncio
+import errno
 import os
 import shutil
 import socket
@@ -13,11 +14,15 @@ from typing import Any
 from unittest import mock
 
 import helpers
-from raceoffice.errors import Trouble
+from raceoffice import system
+from raceoffice.errors import NotSent, Trouble
 from raceoffice.office.keeping import Keeping
 from raceoffice.program.link import Link
-from raceoffice.series import settings
+from raceoffice.series import copies, settings
+from raceoffice.series.continuity import differences
 from raceoffice.series.folder import Folder
+from raceoffice.series.health import disk_fault
+from raceoffice.system import sync_folder
 from raceoffice.web import kept_office
 from raceoffice.web.gate import Gate
 from raceoffice.web.hosting import Host
@@ -117,6 +122,91 @@ class Faults(helpers.Series):
             os.rename(away, program)
             helpers.until("the office", office.is_there)
             self.closed(office)
+
+    def test_rules_while_it_opens(self) -> None:
+        """While an office is being opened taps go by the rules in force, whatever waits in series.ini."""
+        office = self.opened()
+        held: list[tuple[bool, bool]] = []
+        self.closed(office)
+        self.write(self.text("cup", "series.ini").replace("handicap = no", "handicap = yes"), "cup", "series.ini")
+
+        def looked(folder: Folder) -> str:
+            held.append((folder.settings.handicap, self.folder.settings.handicap))
+            return disk_fault(folder)
+        with mock.patch.object(kept_office, "disk_fault", looked):
+            self.assertTrue(office.open(lambda _: False))
+        self.assertEqual(held, [(True, False)])
+        self.closed(office)
+
+    def test_no_room_to_open(self) -> None:
+        """An office that couldn't be opened again isn't closed for that."""
+        office = self.opened()
+        with mock.patch.object(kept_office, "disk_fault", return_value="The disk is full."):
+            with self.assertRaises(NotSent):
+                office.open_again_with_settings(lambda _: True)
+        self.assertTrue(office.is_there())
+        self.closed(office)
+
+    def test_comes_back_late(self) -> None:
+        """An office that was closed for a moment and can't be opened is tried again."""
+        office = self.opened()
+        asked, again = once_wrong(Keeping.start, Trouble("there is no room"))
+        with mock.patch.object(kept_office, "SOON", 0.05), mock.patch.object(Keeping, "start", lambda keeping: asked(keeping)):
+            self.assertFalse(office.open_again_with_settings(lambda _: True))
+            self.assertTrue(again.wait(helpers.PATIENCE), "nobody opens the office")
+            helpers.until("the office", office.is_there)
+        self.closed(office)
+
+    def test_closed_for_a_moment(self) -> None:
+        """An office that is closed while it is only closed for a moment stays so, and is opened again when that is wanted;
+        but not by a web that ends."""
+        office = self.opened()
+
+        def closed_meanwhile(*_: object) -> tuple[str, str]:
+            office.close()
+            return "a copy", ""
+        with mock.patch.object(KeptOffice, "taken_out", closed_meanwhile):
+            office.take_out("GBR101", "Bea", lambda _: True)
+        self.assertFalse(office.is_there())
+        self.assertTrue(office.open(lambda _: True))
+        office.end()
+        self.assertFalse(office.open(lambda _: True))
+        self.assertFalse(office.is_there())
+
+    def test_taken_out_by_a_failing_disk(self) -> None:
+        """A disk that fails just after journal.txt was replaced keeps nothing from going on: the boat is out, nothing is
+        asked at the next opening, and the office comes back."""
+        office, failed = self.opened(), threading.Event()
+
+        def synced(folder: str) -> None:
+            if not failed.is_set() and "GBR101" not in self.text("cup", "journal.txt"):
+                failed.set()
+                raise OSError(errno.EIO, os.strerror(errno.EIO))
+            sync_folder(folder)
+        with mock.patch.object(system, "sync_folder", synced):
+            office.take_out("GBR101", "Bea", lambda _: True)
+        self.assertTrue(failed.is_set())
+        self.assertEqual(differences(self.folder), "")
+        self.assertTrue(office.is_there())
+        self.closed(office)
+
+    def test_noted_by_a_failing_disk(self) -> None:
+        """Nor does one that fails when the shorter journal is copied."""
+        office = self.opened()
+        keep, failed = copies.keep, threading.Event()
+
+        def kept(folder: Folder, data: bytes) -> str:
+            if b"GBR101" not in data and not failed.is_set():
+                failed.set()
+                raise Trouble("the disk is odd")
+            return keep(folder, data)
+        with mock.patch.object(copies, "keep", kept):
+            office.take_out("GBR101", "Bea", lambda _: True)
+        self.assertTrue(failed.is_set())
+        self.assertEqual(differences(self.folder), "")
+        self.assertIn("\tremoved GBR101\t", self.text("cup", "office.log"))
+        self.assertTrue(office.is_there())
+        self.closed(office)
 
     def test_left(self) -> None:
         """An office that can't be opened isn't tried any more once somebody closes it."""

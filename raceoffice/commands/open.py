@@ -20,7 +20,9 @@ from __future__ import annotations
 
 import argparse
 
+from raceoffice.errors import Stopped
 from raceoffice.exit_status import status_of
+from raceoffice.interruption import INTERRUPTED
 from raceoffice.office.before_opening import is_right, mend
 from raceoffice.office.window import OfficeWindow, ask
 from raceoffice.series.folder import Folder
@@ -36,12 +38,16 @@ def open_(path: str) -> int:
         say(fault)
         return 1
     office_window = OfficeWindow(folder)
-    if not office_window.service.lock.is_taken():
-        mend(folder, ask)
-    if not is_right(folder, say):
+    try:
+        if not office_window.service.lock.is_taken():
+            mend(folder, ask)
+        if is_right(folder, say):
+            return office_window.open()
+    except Stopped:
         say("Nothing was opened.")
-        return 1
-    return office_window.open()
+        return INTERRUPTED
+    say("Nothing was opened.")
+    return 1
 
 
 def arguments(parser: argparse.ArgumentParser) -> None:

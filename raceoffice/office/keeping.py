@@ -72,12 +72,15 @@ class Keeping:
             self.say(remark("office-places-taken"))
         self.service.start()
 
-    def take_over(self, ask: Callable[[Question], bool]) -> None:
-        """Goes on with a program whose window has gone, and with its rules."""
-        self.service.take_over(ask)
+    def is_taken_over(self, ask: Callable[[Question], bool]) -> bool:
+        """Goes on with a program whose window has gone, and with its rules; False if that let nobody in any more, and
+        was ended."""
+        if not self.service.is_taken_over(ask):
+            return False
         self.folder.set_closing(False)
         self.folder.set_beware("")
         self.folder.settings = settings_in_force(self.folder)
+        return True
 
     def begin(self) -> None:
         """Copies the journal for the first time, and notes that the office is open."""

@@ -106,16 +106,22 @@ class OfficeProcess:
                 time.sleep(0.02)
         raise Trouble(remark("office-no-socket"))
 
-    def take_over(self, ask: Callable[[Question], bool]) -> None:
+    def is_taken_over(self, ask: Callable[[Question], bool]) -> bool:
         """Goes on with a program whose window has gone; a Trouble if it has one, or comes to have one while
-        this is asked."""
+        this is asked. One that lets nobody in any more, as after a kill while it was being closed, is ended: all that it
+        has answered is on the disk. Then there is none to go on with."""
         number, since = self.without_window()
         if not ask(question("take-over", str, since=since.removeprefix(" since "))):
             raise Trouble(remark("office-goes-on"))
         if self.without_window()[0] != number:
             raise Trouble(remark("office-opened-anew"))
-        self.number, self.link = number, self.folder.link()
+        self.number = number
+        if not self.lets_in():
+            self.stop()
+            return False
+        self.link = self.folder.link()
         self.note_pid()
+        return True
 
     def without_window(self) -> tuple[int, str]:
         """The process of a program that has no window, and since when it is open if that is noted; else a

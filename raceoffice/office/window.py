@@ -40,12 +40,11 @@ class OfficeWindow(Keeping):
     def open(self) -> int:
         """Opens the office, and is its window until it is closed; the status."""
         with contextlib.closing(self.backups.second):
-            if self.service.lock.is_taken():
-                self.take_over(lambda asked: question(asked.text, True))
-            elif not is_meant(self.folder, say, ask):
-                say("Nothing was opened.")
-                return 1
-            else:
+            is_there = self.service.lock.is_taken()
+            if not (is_there and self.is_taken_over(lambda asked: question(asked.text, True))):
+                if not is_meant(self.folder, say, ask):
+                    say("Nothing was opened.")
+                    return 1
                 self.start()
             try:
                 self.begin()
@@ -133,9 +132,10 @@ class OfficeWindow(Keeping):
 
 
 def ask(asked: Question) -> bool:
-    """Whether somebody says yes; Enter alone is no. What was typed before the question is no answer to it."""
+    """Whether somebody says yes; Enter alone is no. What was typed before the question is no answer to it, and Ctrl-C
+    is none either: an office may be opened after a no, too."""
     forget_typed()
-    return question(asked.text)
+    return question(asked.text, is_stopped=True)
 
 
 def forget_typed() -> None:

@@ -134,16 +134,25 @@ def take_out(folder: Folder, found: Removal, by: str = "") -> tuple[str, str]:
     note_places(folder, by)
     note_taken_out(folder, found, by)
     fault = replace(folder, found.data, by)
+    try:
+        log_taken_out(folder, found, by)
+    except Trouble:
+        # Of a disk that fails for a moment nobody is asked at the next opening.
+        log_taken_out(folder, found, by)
     # After a kill just before, the sheets have a row of a boat that isn't entered, which is left out.
     take_out_of_sheets(folder, found.sail)
-    copies.keep(folder, found.data)
-    note = note_now(folder, found.data)
-    folder.log(by, "", "", f"removed {found.sail}", note)
-    folder.log("", "", "", "closed", note)
     with contextlib.suppress(Trouble):
         # A finisher who was said to be that boat is kept again, in all her classes.
         Twins(folder).follow(history_of(folder), by)
     return copy, fault
+
+
+def log_taken_out(folder: Folder, found: Removal, by: str) -> None:
+    """Makes a dated copy of the shorter journal, and logs that the office goes on from there."""
+    copies.keep(folder, found.data)
+    note = note_now(folder, found.data)
+    folder.log(by, "", "", f"removed {found.sail}", note)
+    folder.log("", "", "", "closed", note)
 
 
 def note_places(folder: Folder, by: str) -> None:
@@ -206,7 +215,13 @@ def why_refused(said: str, data: bytes) -> Remark:
 def replace(folder: Folder, data: bytes, by: str) -> str:
     """Writes the shorter journal, and its copy on a second disk: why there is none, if there is none."""
     # A link stays, and what it leads to is replaced.
-    replace_whole(os.path.realpath(folder.journal), data)
+    path = os.path.realpath(folder.journal)
+    try:
+        replace_whole(path, data)
+    except Trouble:
+        # The disk may have failed after the file was replaced: then what is there now counts.
+        if folder.parts()[0] != data:
+            raise
     note_out(folder, by)
     with second_of(folder) as second, contextlib.suppress(Trouble):
         # A copy of the journal without her has to have the places by its numbers.

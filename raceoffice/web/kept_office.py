@@ -8,7 +8,7 @@ import time
 from collections.abc import Callable
 
 from raceoffice import system
-from raceoffice.errors import Fault, NotSent, Trouble
+from raceoffice.errors import Fault, NotSent, Stopped, Trouble
 from raceoffice.office.before_opening import Ask, is_meant, is_right, keep_rules, mend, question_of_rules
 from raceoffice.office.keeping import Keeping
 from raceoffice.program.messages import move_text
@@ -49,8 +49,8 @@ class KeptOffice:
         # Whether an office that is asked to close is opened again at once.
         self.comes_back = False
         self.is_ended.set()
-        # Whether nobody wants this process to open it by itself any more.
-        self.is_left = threading.Event()
+        # Whether nobody wants this process to open it by itself any more, and whether it opens it in no case.
+        self.is_left, self.is_over = threading.Event(), False
 
     def say(self, *said: str) -> None:
         at = int(time.time() * 1000)
@@ -86,9 +86,10 @@ class KeptOffice:
 
     # Opening
 
-    def open(self, ask: Ask, as_it_was: bool = False) -> bool:
+    def open(self, ask: Ask, as_it_was: bool = False, is_again: bool = False) -> bool:
         """Opens the office, joins one that a window has, or takes over one whose window has gone; whether one
-        is open then. One that is opened `as_it_was` goes by the rules in force, and nobody is asked about others."""
+        is open then. One that is opened `as_it_was` goes by the rules in force, and nobody is asked about others. One that
+        is opened again by itself stays closed if somebody has closed it meanwhile."""
         if self.is_shut():
             return self.open_again_with_settings(ask)
         with self.lock:
@@ -97,8 +98,10 @@ class KeptOffice:
                 self.is_ended.wait()
             if self.keeping:
                 return True
+            if self.is_over or is_again and self.is_left.is_set():
+                return False
             try:
-                with guarded(self.folder.path, Asked):
+                with guarded(self.folder.path, Asked, Stopped):
                     return self.is_opened(ask, as_it_was)
             except Trouble as trouble:
                 self.say(sentence(trouble))
@@ -110,24 +113,24 @@ class KeptOffice:
         return keeping is not None and not keeping.service.is_over() and not keeping.service.lets_in()
 
     def is_opened(self, ask: Ask, as_it_was: bool) -> bool:
-        # They may have been changed since.
-        self.folder.settings = settings.read(self.folder.path)
+        # The settings may have been changed since. Taps go by the rules in force meanwhile.
+        fresh = Folder(self.folder.path)
         if as_it_was:
-            keep_rules(self.folder, self.say)
+            keep_rules(fresh, self.say)
         try:
-            return self.is_kept(ask)
+            return self.is_kept(fresh, ask)
         finally:
             # Rules that nobody has agreed to wait, and another window's office has its own.
-            self.folder.settings = settings_in_force(self.folder)
+            self.folder.settings = settings_in_force(fresh)
 
-    def is_kept(self, ask: Ask) -> bool:
-        """Whether the office is open with the settings as the folder has them."""
-        self.folder.make_private()
-        keep_zone(self.folder, self.say)
-        if fault := disk_fault(self.folder):
+    def is_kept(self, folder: Folder, ask: Ask) -> bool:
+        """Whether the office is open with the settings as this folder has them."""
+        folder.make_private()
+        keep_zone(folder, self.say)
+        if fault := disk_fault(folder):
             self.say(fault)
             return False
-        keeping = Keeping(self.folder, self.say, lambda: self.is_hurried)
+        keeping = Keeping(folder, self.say, lambda: self.is_hurried)
         try:
             is_open = self.is_begun(keeping, ask)
         except BaseException:
@@ -142,23 +145,23 @@ class KeptOffice:
 
     def is_begun(self, keeping: Keeping, ask: Ask) -> bool:
         """Whether this process keeps the office now."""
-        if keeping.service.lock.is_taken():
-            try:
-                keeping.take_over(is_yes)
-            except Trouble as trouble:
-                self.say(in_a_row(sentence(trouble), remark("office-joined")))
-                return False
-        else:
-            mend(self.folder, ask)
-            if not (is_right(self.folder, self.say) and is_meant(self.folder, self.say, ask)):
+        folder = keeping.folder
+        try:
+            is_there = keeping.service.lock.is_taken() and keeping.is_taken_over(is_yes)
+        except Trouble as trouble:
+            self.say(in_a_row(sentence(trouble), remark("office-joined")))
+            return False
+        if not is_there:
+            mend(folder, ask)
+            if not (is_right(folder, self.say) and is_meant(folder, self.say, ask)):
                 self.say(remark("office-nothing"))
                 return False
             keeping.start()
         keeping.begin()
-        for text in notes(self.folder):
+        for text in notes(folder):
             self.say(text)
         keeping.note_opened()
-        self.say(summary(self.folder), settings.rules_remark(self.folder.settings), remark("office-open", time=clock()))
+        self.say(summary(folder), settings.rules_remark(folder.settings), remark("office-open", time=clock()))
         return True
 
     def keep(self, keeping: Keeping) -> None:
@@ -202,21 +205,25 @@ class KeptOffice:
         return True
 
     def open_again(self) -> None:
-        """Opens an office that has gone by itself, a few times. If it can't be opened it is tried again, after a pause
-        that grows. What has to be asked waits for the scorer."""
+        """Opens an office that has gone by itself, a few times."""
         recent = [at for at in self.opened if at > time.monotonic() - LONG]
         if self.is_asked_to_close:
             return
         if len(recent) > TIMES:
             self.say(remark("office-gone-often", times=len(recent), minutes=f"{LONG / 60:.0f}"))
             return
+        self.keep_trying()
+
+    def keep_trying(self) -> None:
+        """Opens the office as it was. If it can't be opened that is tried again, after a pause that grows, until somebody
+        closes it. What has to be asked waits for the scorer."""
         asked: list[Question] = []
 
         def note(question: Question) -> bool:
             asked.append(question)
             return False
         pause = SOON
-        while not self.is_left.is_set() and not self.open(note, as_it_was=True):
+        while not self.is_left.is_set() and not self.open(note, as_it_was=True, is_again=True):
             if asked:
                 self.say(remark("office-waits"))
                 return
@@ -229,8 +236,9 @@ class KeptOffice:
 
     def close(self, comes_back: bool = False) -> bool:
         """Closes the office, which lets everybody leave first; whether it was this process that kept it. One
-        that a window keeps stays open."""
-        self.is_left.set()
+        that a window keeps stays open. One that `comes_back` is opened again by whoever closes it."""
+        if not comes_back:
+            self.is_left.set()
         with self.lock:
             # One that is being opened just now is closed, too.
             if not self.keeping:
@@ -239,6 +247,19 @@ class KeptOffice:
         self.is_asked_to_close = True
         self.is_ended.wait()
         return True
+
+    def end(self) -> bool:
+        """Closes the office for the last time; whether it was this process that kept it."""
+        self.is_over = True
+        return self.close()
+
+    def come_back(self, ask: Ask, as_it_was: bool) -> bool:
+        """Opens the office again that was closed for a moment, unless somebody has closed it meanwhile; whether it is
+        open. If it can't be opened, that is tried again."""
+        is_open = self.open(ask, as_it_was, is_again=True)
+        if not is_open:
+            threading.Thread(target=self.keep_trying, daemon=True).start()
+        return is_open
 
     def take_out(self, sail: str, by: str, ask: Ask) -> str:
         """Takes a boat out of the journal, for which the office is closed and opened again: the dated copy that has her
@@ -254,7 +275,7 @@ class KeptOffice:
             copy, fault = self.taken_out(fresh, sail, by, wanted)
         finally:
             if was_open:
-                self.open(lambda _: False, as_it_was=True)
+                self.come_back(lambda _: False, as_it_was=True)
         self.say(remark("office-out", sail=sail, copy=copy), *([remark("office-no-copy", why=fault)] if fault else []))
         return copy
 
@@ -283,12 +304,12 @@ class KeptOffice:
         """Closes the office and opens it with the settings as they are now; whether it is open then. What they
         would change is asked while it is still open. NotSent if it can't be, and nothing is closed then."""
         fresh = self.folder_alone()
-        if wrong := faults(fresh):
+        if wrong := faults(fresh) or [fault for fault in [disk_fault(fresh)] if fault]:
             raise NotSent(*wrong)
         asked = question_of_rules(fresh)
         as_it_was = bool(asked and not ask(asked))
         self.close(comes_back=True)
-        return self.open(ask, as_it_was)
+        return self.come_back(ask, as_it_was)
 
 
 def question_of_removal(folder: Folder, sail: str) -> Question:

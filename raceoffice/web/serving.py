@@ -15,7 +15,7 @@ import webbrowser
 from dataclasses import dataclass
 
 from raceoffice import system
-from raceoffice.errors import Served, Trouble
+from raceoffice.errors import Served, Stopped, Trouble
 from raceoffice.results.http_answers import addresses
 from raceoffice.results.source import need_own_names
 from raceoffice.series.folder import Folder, clock
@@ -52,10 +52,6 @@ class Asked:
     new: tuple[str, ...]
     is_shown_here: bool = False
     own: str = ""
-
-
-class Stopped(Exception):
-    """The web was stopped while something was asked."""
 
 
 class Web:

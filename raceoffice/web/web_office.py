@@ -189,7 +189,7 @@ class WebOffice:
             self.live_board.leave()
 
     def close_one(self, one: Class) -> None:
-        if not one.office.close() and one.office.is_there():
+        if not one.office.end() and one.office.is_there():
             self.tell(f"{one.room.folder.name}: The office stays open, as it was before.")
         one.results.close()
         one.room.close()
