@@ -298,6 +298,18 @@ class Late(OnWater):
         self.assertEqual(at(90, "Cy", "FINISH 1 GBR33", behind="NED12"), "taken")
         self.assertEqual(self.seen(1), [["NED12"], ["GBR7"], ["IRL5"], ["FRA9"], ["GBR33"]])
 
+    def test_own_places(self) -> None:
+        """A phone without a connection tapped IRL5 at 4 s, `?` at 7 s and GBR7 at 10 s; another one tapped IRL5 at 13 s. However
+        late ?1 is for the other, she is ahead of GBR7, and of the next `?` of her own phone."""
+        def at(second: float, name: str, line: str, **more: Any) -> Any:
+            return self.do("FINISH", name, line, at=int(1_000_000 + 1000 * second), **more)
+        at(0, "Ann", "FINISH 1 NED12", behind="")
+        at(13, "Bob", "FINISH 1 IRL5", behind="NED12")
+        at(16, "Bob", "FINISH 1 FRA9", behind="IRL5")
+        for second, line, behind in ((7, "? 1", "IRL5"), (10, "FINISH 1 GBR7", "IRL5"), (11, "? 1", "GBR7")):
+            at(second, "Ann", line, behind=behind, by_clock=True)
+        self.assertEqual(self.seen(1), [["NED12"], ["IRL5"], ["?1"], ["GBR7"], ["?2"], ["FRA9"]])
+
     # Another race
 
     def test_place_among_those_of_another_race(self) -> None:

@@ -3,6 +3,7 @@ from __future__ import annotations
 
 import collections
 import contextlib
+import dataclasses
 import threading
 import time
 from collections.abc import Callable
@@ -73,6 +74,14 @@ class KeptOffice:
     def takes_lines(self) -> bool:
         """Whether this process keeps an office that isn't being closed for good."""
         return self.keeping is not None and (self.comes_back or not self.is_asked_to_close)
+
+    def copy_to(self, path: str) -> None:
+        """Makes a folder the second one at once, for an office that this process keeps or that is closed. Another window's has
+        its own."""
+        with self.lock:
+            kept = [self.keeping.folder] if self.keeping else []
+            for folder in [self.folder, *kept] if kept or not self.is_there() else []:
+                folder.settings = dataclasses.replace(folder.settings, copy=path)
 
     def second_trouble(self) -> str:
         """Why an office that this process keeps has no second copy; empty if it has one."""

@@ -483,12 +483,13 @@ class Room:
 
     def times_in(self, session: TapSession, order: Race) -> dict[str, int]:
         """When each boat and each place of an order crossed the line, as far as that is known. A boat that was put into a
-        place did when that was kept."""
+        place did when that was kept. The device's own places are ahead of what it taps later, wherever they were put."""
         moments, history, race = self.register.moments_now(self.facts.sheet.journal), session.history, order.number
         marks = self.times_of_places(history, race)
         boats = {sail: at for (of, sail), at in moments.items() if of == race}
         placed = {sail: marks[mark] for sail, mark in history.boats_in_places(race).items() if mark in marks}
-        return as_placed(order.order, boats | placed | marks)
+        own = self.register.places_by(session.name, race)
+        return as_placed(order.order, boats | placed | marks) | {mark: at for mark, at in marks.items() if mark in own}
 
     def times_of_places(self, history: History, race: int) -> dict[str, int]:
         """When each place of a race was kept, by a tap or in a window."""

@@ -2,7 +2,6 @@
 from __future__ import annotations
 
 import contextlib
-import dataclasses
 import os
 from collections.abc import Mapping
 from typing import Any
@@ -57,5 +56,4 @@ def choose(folder: Folder, office: KeptOffice, values: Mapping[str, Any], by: st
             replace_whole(folder.file(settings.NAME), utf8(changed))
     except Trouble as trouble:
         raise NotSent(*trouble.said) from None
-    if office.keeping or not office.is_there():
-        folder.settings = dataclasses.replace(folder.settings, copy=path)
+    office.copy_to(path)
