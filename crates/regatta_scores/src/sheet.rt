@@ -228,8 +228,6 @@ impl RaceSheet {
         })
     }
 
-    // Inlined, so that the order isn't copied.
-    #[inline(always)]
     fn with_order(&self, alloc: Global, order: Groups) -> Result<RaceSheet, AllocError>
         requires { IsWhole order self.now.held self.now.seconds }
         ensures { IfOk result (λ sheet. sheet ≡ record {
@@ -242,8 +240,6 @@ impl RaceSheet {
         self.with_places(alloc, order, times)
     }
 
-    // Inlined, so that the order and the times aren't copied.
-    #[inline(always)]
     fn with_places(
         &self,
         alloc: Global,
