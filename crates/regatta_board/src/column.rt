@@ -10,7 +10,7 @@ ghost use Rattle.regatta_board.specs.Table.{column as column_of, races as races_
 use crate::kept::index_of;
 use crate::sheets::Sheets;
 use regatta_scores::{
-    Items, PerRace, RACES, RaceColumn, RaceScore, RaceScores, RaceSheet, Work, race_scores,
+    Items, RACES, RaceColumn, RaceScore, RaceScores, RaceSheet, Work, race_scores,
 };
 use regatta_terms::{RaceNo, Rules};
 use std::alloc::{AllocError, Global};
@@ -139,21 +139,21 @@ fn current<'a>(old: &'a [Column], new: Option<&'a NewColumn>, race: RaceNo) -> R
     column.as_race_column()
 }
 
-/// Appends the columns of these races, after a new one replaces that of its race.
-// The caller's list is filled, since a list that is returned is copied.
-pub(crate) fn push_columns<'a>(
-    found: &mut PerRace<RaceColumn<'a>>,
+/// The columns of these races, after a new one replaces that of its race.
+// An inline list with room for all races would be filled and copied for each command.
+pub(crate) fn current_columns<'a>(
+    alloc: Global,
     old: &'a [Column],
     new: Option<&'a NewColumn>,
     races: &[RaceNo],
-)
-    requires old { length old.now ≡ MAX_RACES }
-    requires few { length races.now ≤ MAX_RACES }
-    requires none { found.old.items ≡ [] }
-    ensures { found.new.items
-        ≡ columns_in (with_column old.now (option_copied new.entry)) races.now }
+) -> Result<Vec<RaceColumn<'a>>, AllocError>
+    requires { length old.now ≡ MAX_RACES }
+    ensures { IfOk result (λ found. found.items
+        ≡ columns_in (with_column old.now (option_copied new.entry)) races.now) }
 {
+    let mut found = Vec::with_capacity(alloc, races.len())?;
     for &race in races {
-        found.push(current(old, new, race));
+        found.push_reserved(current(old, new, race));
     }
+    Ok(found)
 }
