@@ -10,7 +10,7 @@ ghost use Rattle.regatta_board.specs.Table.{column as column_of, races as races_
 use crate::kept::index_of;
 use crate::sheets::Sheets;
 use regatta_scores::{
-    Items, RACES, RaceColumn, RaceScore, RaceScores, RaceSheet, Work, race_scores,
+    Items, PerRace, RACES, RaceColumn, RaceScore, RaceScores, RaceSheet, Work, race_scores,
 };
 use regatta_terms::{RaceNo, Rules};
 use std::alloc::{AllocError, Global};
@@ -139,8 +139,26 @@ fn current<'a>(old: &'a [Column], new: Option<&'a NewColumn>, race: RaceNo) -> R
     column.as_race_column()
 }
 
-/// The columns of these races, after a new one replaces that of its race.
-// An inline list with room for all races would be filled and copied for each command.
+/// Appends the columns of these races, for a table.
+// They are stored inline, since a table reads one for each cell. The caller's list is filled, since
+// a list that is returned is copied.
+pub(crate) fn push_columns<'a>(
+    found: &mut PerRace<RaceColumn<'a>>,
+    columns: &'a [Column],
+    races: &[RaceNo],
+)
+    requires columns { length columns.now ≡ MAX_RACES }
+    requires few { length races.now ≤ MAX_RACES }
+    requires none { found.old.items ≡ [] }
+    ensures { found.new.items ≡ columns_in columns.now races.now }
+{
+    for &race in races {
+        found.push(current(columns, None, race));
+    }
+}
+
+/// The columns of these races for a command, after a new one replaces that of its race.
+// A command reads few of them. An inline list would be filled and copied for each.
 pub(crate) fn current_columns<'a>(
     alloc: Global,
     old: &'a [Column],

@@ -14,11 +14,12 @@ ghost use Rattle.regatta_board.specs.Table.{lines as lines_of, table as table_of
 
 pub(crate) mod update;
 
-use crate::column::{Column, NewColumn, all_columns, current_columns};
+use crate::column::{Column, NewColumn, all_columns, current_columns, push_columns};
 use crate::kept::{Kept, index_of};
 use crate::table::{races, sorted_rows};
 use regatta_scores::{
-    BoatLine, Items, NewLine, RaceColumn, RaceScore, Races, Ranking, Standing, Work, boat_line,
+    BoatLine, Items, NewLine, PerRace, RaceColumn, RaceScore, Races, Ranking, Standing, Work,
+    boat_line,
 };
 use regatta_terms::{MAX_BOATS, RaceNo, Rules, Touched};
 use std::alloc::{AllocError, Global};
@@ -240,7 +241,8 @@ impl Scoring {
             → IsScoring rules kept.now self.now → made ≡ table_of rules kept.now) }
     {
         let races = Vec::from_slice(alloc, self.races.as_slice())?;
-        let found = current_columns(alloc, &self.columns, None, &races)?;
+        let mut found = PerRace::new();
+        push_columns(&mut found, &self.columns, &races);
         let places = self.ranking.places(alloc, &self.lines)?;
         let rows = sorted_rows(
             alloc,

@@ -42,7 +42,7 @@ each : (c : goal.After-as_slice-2) → c.deref-4.result.now
 each c =
     let cols : c.deref.result.now ≡ c.args.self.now.columns =
     c.deref.ensures.value ∙ ap (λ (s : Scoring). s.columns) c.self.view_is in
-    c.deref-4.ensures.value ∙ c.in_ok-found.ensures
+    c.deref-4.ensures.0 ∙ c.push_columns.ensures
     ∙ (λ i. columns_in (cols i) c.deref-2.result.now)
 
 found : (c : goal.After-as_slice-2) → c.deref-4.result.now
@@ -88,7 +88,7 @@ sorted_rows-requires-clause-ranks c =
 pub sorted_rows-requires-clause-few : goal.sorted_rows-requires-clause-few
 sorted_rows-requires-clause-few c =
     columns_few _ c.deref-2.result.now c.deref-4.result.now
-    (c.deref-4.ensures.value ∙ c.in_ok-found.ensures)
+    (c.deref-4.ensures.0 ∙ c.push_columns.ensures)
     (rw (rs c) (races_few c.args.kept.now.counts))
 
 pub returns : goal.returns
@@ -108,7 +108,7 @@ returns c rules is =
     c.deref-2.ensures.value ∙ counted in
     let each : c.deref-4.result.now
     ≡ columns_in c.args.self.now.columns c.deref-2.result.now =
-    c.deref-4.ensures.value ∙ c.in_ok-found.ensures
+    c.deref-4.ensures.0 ∙ c.push_columns.ensures
     ∙ (λ i. columns_in (cols i) c.deref-2.result.now) in
     let found = found_columns rules c.args.kept.now c.requires.kept _ is.columns rs each in
     let all = columns rules c.args.kept.now.sheets (races c.args.kept.now.counts) in
@@ -118,3 +118,10 @@ returns c rules is =
     ∙ rows_are rules c.args.kept.now.sails all c.args.self.now.lines (places c.args.self.now.lines)
     is.lines refl in
     λ i. record { races = races_are i; rows = rows_made i }
+
+pub push_columns-requires-clause-few : goal.push_columns-requires-clause-few
+push_columns-requires-clause-few c =
+    let rs : c.deref-2.result.now ≡ races c.args.kept.now.counts =
+    c.deref-2.ensures.value ∙ c.in_ok-races.ensures.items ∙ c.as_slice.ensures
+    ∙ ap (λ (s : Scoring). s.races) c.self.view_is ∙ c.requires.scoring.1.races in
+    rw rs (races_few c.args.kept.now.counts)
