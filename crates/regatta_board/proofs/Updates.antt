@@ -3,7 +3,7 @@ use Rattle.std.proofs.Common.{◌≡◌, ℕ, zero, suc, ◌+◌, ◌-◌, ◌<�
 use Rattle.std.proofs.Common.{◌++◌, ap, refl, ◌∙◌, sym, subst, arith, length, map, filter, get_or}
 use Rattle.std.proofs.Common.{nat_eq, nat_lt, cond, slice_set, All, Some}
 use borrow.Author.Tests.{eqb-true, ltb-true, ltb-false}
-use Rattle.std.specs.Global.{Vec}
+use Rattle.std.specs.Global.{Box, Vec}
 use Rattle.std.specs.Prelude.{vec_capacity}
 use Rattle.std.specs.List.{range_with_len}
 use Rattle.std.proofs.lemmas.List.{length-set, get_or-set_other, get_or-set_same, get_or_past}
@@ -108,12 +108,12 @@ module _ {rules : RulesParts} {before : Kept} {scoring : Scoring}
   }
 
   -- one more boat is entered
-  module _ (sails : List Sail) (sheets : List Sheet) where
+  module _ (sails : List Sail) (sheets : Box (List Sheet)) where
     abbrev fleet : Kept
-    fleet = record before { sails = sails; sheets = sheets }
+    fleet = record before { sails = sails; sheets = sheets.value }
 
     pub entered_update : (columns : Vec (List RaceScore)) → length columns.items ≡ MAX_RACES
-        → AreColumns rules sheets before.counts columns.items
+        → AreColumns rules sheets.value before.counts columns.items
         → (made : Vec BoatScores) → limits.boats ≤ vec_capacity made
         → made.items ≡ lines_by rules fleet → (ranking : List ℕ) → IsRanking made.items ranking
         → IsUpdate rules before fleet (update.Entered sails sheets columns made ranking)
@@ -147,7 +147,7 @@ module _ {rules : RulesParts} {before : Kept} {scoring : Scoring}
         races = was.races;
         long = was.long;
         columns = λ k. was.columns k ∙ uncounted_at rules before.sheets before.counts k (off k)
-            ∙ sym (uncounted_at rules sheets before.counts k (off k));
+            ∙ sym (uncounted_at rules sheets.value before.counts k (off k));
         lines = ap (λ ls. ls ++ no_line ∷ []) was.lines ∙ with_hers;
         ranking = subst (λ ls. IsRanking (ls ++ no_line ∷ []) ranking) (lines_same old was) ranked;
       };
@@ -163,7 +163,7 @@ module _ {rules : RulesParts} {before : Kept} {scoring : Scoring}
             none
             ∙ sym (lines_more rules [] n)
             ∙ ap (lines rules []) (sym one)
-            ∙ ap (λ rs. lines rules (columns rules sheets rs) (length sails)) (sym none)
+            ∙ ap (λ rs. lines rules (columns rules sheets.value rs) (length sails)) (sym none)
 
 -- the entry list and the sheets with one more boat
 pub boat_step : (before : Kept) (sail : Sail) {sails : List Sail} {sheets : List Sheet}

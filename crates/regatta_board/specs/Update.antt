@@ -16,9 +16,9 @@ use Rattle.regatta_board.specs.Table.{Kept, IsKept, races, no_line}
 -- what is kept, after an update is moved in
 abbrev pub kept_with : Kept → Update → Kept
 kept_with kept (update.Added boats sheets ranking) =
-    record kept { sails = boats; sheets = sheets }
+    record kept { sails = boats; sheets = sheets.value }
 kept_with kept (update.Entered boats sheets columns lines ranking) =
-    record kept { sails = boats; sheets = sheets }
+    record kept { sails = boats; sheets = sheets.value }
 kept_with kept (update.Sheet race sheet) = with_sheet kept race sheet
 kept_with kept (update.Column sheet column) = with_sheet kept column.race sheet
 kept_with kept (update.Lines sheet column lines ranking) = with_sheet kept column.race sheet

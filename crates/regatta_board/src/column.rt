@@ -139,21 +139,39 @@ fn current<'a>(old: &'a [Column], new: Option<&'a NewColumn>, race: RaceNo) -> R
     column.as_race_column()
 }
 
-/// Appends the columns of these races, after a new one replaces that of its race.
-// The caller's list is filled, since a list that is returned is copied.
+/// Appends the columns of these races, for a table.
+// They are stored inline, since a table reads one for each cell. The caller's list is filled, since
+// a list that is returned is copied.
 pub(crate) fn push_columns<'a>(
     found: &mut PerRace<RaceColumn<'a>>,
+    columns: &'a [Column],
+    races: &[RaceNo],
+)
+    requires columns { length columns.now ≡ MAX_RACES }
+    requires few { length races.now ≤ MAX_RACES }
+    requires none { found.old.items ≡ [] }
+    ensures { found.new.items ≡ columns_in columns.now races.now }
+{
+    for &race in races {
+        found.push(current(columns, None, race));
+    }
+}
+
+/// The columns of these races for a command, after a new one replaces that of its race.
+// A command reads few of them. An inline list would be filled and copied for each.
+pub(crate) fn current_columns<'a>(
+    alloc: Global,
     old: &'a [Column],
     new: Option<&'a NewColumn>,
     races: &[RaceNo],
-)
-    requires old { length old.now ≡ MAX_RACES }
-    requires few { length races.now ≤ MAX_RACES }
-    requires none { found.old.items ≡ [] }
-    ensures { found.new.items
-        ≡ columns_in (with_column old.now (option_copied new.entry)) races.now }
+) -> Result<Vec<RaceColumn<'a>>, AllocError>
+    requires { length old.now ≡ MAX_RACES }
+    ensures { IfOk result (λ found. found.items
+        ≡ columns_in (with_column old.now (option_copied new.entry)) races.now) }
 {
+    let mut found = Vec::with_capacity(alloc, races.len())?;
     for &race in races {
-        found.push(current(old, new, race));
+        found.push_reserved(current(old, new, race));
     }
+    Ok(found)
 }

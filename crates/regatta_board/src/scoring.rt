@@ -14,7 +14,7 @@ ghost use Rattle.regatta_board.specs.Table.{lines as lines_of, table as table_of
 
 pub(crate) mod update;
 
-use crate::column::{Column, NewColumn, all_columns, push_columns};
+use crate::column::{Column, NewColumn, all_columns, current_columns, push_columns};
 use crate::kept::{Kept, index_of};
 use crate::table::{races, sorted_rows};
 use regatta_scores::{
@@ -167,8 +167,7 @@ fn lines_of_races(
         (columns_in (with_column columns.now (option_copied new.entry)) races.now) boats) }
     ensures room { IfOk result (λ lines. limits.boats ≤ vec_capacity lines) }
 {
-    let mut found = PerRace::new();
-    push_columns(&mut found, columns, new, races);
+    let found = current_columns(alloc, columns, new, races)?;
     let lines = whole_lines(alloc, &found, boats, rules)?;
     Ok(lines)
 }
@@ -188,13 +187,12 @@ fn remade_lines(
         (columns_in (with_column scoring.now.columns (Some column.now)) scoring.now.races)
         (length scoring.now.lines)) made.items) }
 {
-    let mut found = PerRace::new();
-    push_columns(
-        &mut found,
+    let found = current_columns(
+        alloc,
         &scoring.columns,
         Some(column),
         scoring.races.as_slice(),
-    );
+    )?;
     let old = &scoring.columns[index_of(column.race)];
     let new = column.column.as_race_column();
     let lines = changed_lines(alloc, &scoring.lines, old, &new, &found, rules)?;
@@ -244,7 +242,7 @@ impl Scoring {
     {
         let races = Vec::from_slice(alloc, self.races.as_slice())?;
         let mut found = PerRace::new();
-        push_columns(&mut found, &self.columns, None, &races);
+        push_columns(&mut found, &self.columns, &races);
         let places = self.ranking.places(alloc, &self.lines)?;
         let rows = sorted_rows(
             alloc,

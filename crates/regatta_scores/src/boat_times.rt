@@ -39,7 +39,7 @@ impl BoatTimes {
     pub(crate) fn of(&self, boat: u16) -> Option<Seconds>
         ensures { result ≡ time_of self.now boat }
     {
-        match self.seconds.get(boat as usize) {
+        match self.seconds.get(usize::from(boat)) {
             Some(time) => *time,
             None => None,
         }
@@ -75,11 +75,11 @@ impl BoatTimes {
         requires { boat < length self.now }
         ensures { IfOk result (λ new. new ≡ slice_set self.now boat time) }
     {
-        let boats = self.seconds.len() + self.further as usize;
+        let boats = self.seconds.len() + usize::from(self.further);
         let mut seconds = Vec::with_capacity(alloc, boats)?;
         seconds.extend_from_slice(&self.seconds)?;
         seconds.resize(boats, None)?;
-        seconds[boat as usize] = time;
+        seconds[usize::from(boat)] = time;
         Ok(BoatTimes {
             seconds,
             further: 0,

@@ -52,7 +52,7 @@ fn positions_of(alloc: Global, boats: usize, new: &[NewLine]) -> Result<Vec<u16>
 {
     let mut positions = vec![in alloc; NO_LINE; boats]?;
     for k in 0..new.len() {
-        positions[new[k].boat as usize] = k as u16;
+        positions[usize::from(new[k].boat)] = k as u16;
     }
     Ok(positions)
 }
@@ -91,7 +91,7 @@ impl<'a> CurrentLines<'a> {
         requires { boat < length self.now.new }
         ensures { result ≡ is_new self.now.new boat }
     {
-        (self.positions[boat] as usize) < self.new.len()
+        usize::from(self.positions[boat]) < self.new.len()
     }
 
     /// The line of the boat with this number.
@@ -100,7 +100,7 @@ impl<'a> CurrentLines<'a> {
         ensures { result.now ≡ line_of self.now.lines boat }
     {
         let (old, new) = (self.old, self.new);
-        let at = self.positions[boat] as usize;
+        let at = usize::from(self.positions[boat]);
         if at < new.len() {
             &new[at].line
         } else {

@@ -124,7 +124,8 @@ pub(crate) fn put_averages(points: &mut [Tenths], races: &[u8], over: Counted)
     ensures { points.new ≡ averaged_at over.number over.sum points.old races.now }
 {
     for &race in races {
-        points[race as usize] = average_or(points[race as usize], over);
+        let race = usize::from(race);
+        points[race] = average_or(points[race], over);
     }
 }
 

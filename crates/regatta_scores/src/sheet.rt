@@ -95,7 +95,7 @@ fn held_with_change(
     ensures { IfOk result (λ new. new.items ≡ slice_set all.now boat held) }
 {
     let mut new = Vec::from_slice(alloc, all)?;
-    new[boat as usize] = held;
+    new[usize::from(boat)] = held;
     Ok(new)
 }
 
@@ -111,7 +111,7 @@ impl RaceSheet {
     {
         Ok(RaceSheet {
             order: Groups::new(alloc),
-            held: vec![in alloc; NOTHING_HELD; boats as usize]?,
+            held: vec![in alloc; NOTHING_HELD; usize::from(boats)]?,
             seconds: BoatTimes::none(alloc, boats),
         })
     }
@@ -130,7 +130,7 @@ impl RaceSheet {
         ensures value { slice_get self.now.held boat ≡ Some result }
         ensures few { (result.zfp ≤ MAX_PENALTIES) × (result.scp ≤ MAX_PENALTIES) }
     {
-        self.held[boat as usize]
+        self.held[usize::from(boat)]
     }
 
     /// The corrected time by which the boat, one of the sheet's, was placed, if any.
@@ -237,8 +237,7 @@ impl RaceSheet {
         }) }
     {
         let times = self.seconds.copy(alloc)?;
-        let sheet = self.with_places(alloc, order, times)?;
-        Ok(sheet)
+        self.with_places(alloc, order, times)
     }
 
     fn with_places(

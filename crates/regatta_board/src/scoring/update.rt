@@ -23,18 +23,20 @@ use std::alloc::{AllocError, Global};
 
 /// What a command changes, in memory that is already allocated. Lists of all lines have room for all
 /// boats that a series may have.
+// The sheets of an entry are boxed: they would make every update twice as large, and updates are
+// copied.
 #[derive(Drop)]
 pub(crate) enum Update {
     /// A boat is entered while no race counts. Her line is empty.
     Added {
         boats: Boats,
-        sheets: Sheets,
+        sheets: Box<Sheets>,
         ranking: Ranking,
     },
     /// A boat is entered while races count: their columns and all lines change.
     Entered {
         boats: Boats,
-        sheets: Sheets,
+        sheets: Box<Sheets>,
         columns: Vec<Column>,
         lines: Vec<BoatLine>,
         ranking: Ranking,
@@ -89,6 +91,7 @@ fn update_of_boat(
         let ranking = scoring
             .ranking
             .with_boat(alloc, &scoring.lines, &BoatLine::empty())?;
+        let sheets = Box::new(alloc, sheets)?;
         return Ok(Update::Added {
             boats,
             sheets,
@@ -98,6 +101,7 @@ fn update_of_boat(
     let columns = all_columns(alloc, &sheets, kept.counts(), rules, work)?;
     let lines = lines_of_races(alloc, &columns, None, races, boats.len(), rules)?;
     let ranking = Ranking::of(alloc, &lines)?;
+    let sheets = Box::new(alloc, sheets)?;
     Ok(Update::Entered {
         boats,
         sheets,
@@ -221,17 +225,12 @@ impl Update {
         ensures counted { OnOk result (work.new ≤ work.old + most_remade kept.now step) }
     {
         match step {
-            Step::Enter { sail } => {
-                let update = update_of_boat(alloc, kept, scoring, rules, sail, work)?;
-                Ok(update)
-            }
+            Step::Enter { sail } => update_of_boat(alloc, kept, scoring, rules, sail, work),
             Step::Sheet { race, change } => {
-                let update = update_of_sheet(alloc, kept, scoring, rules, race, change, work)?;
-                Ok(update)
+                update_of_sheet(alloc, kept, scoring, rules, race, change, work)
             }
             Step::Counts { race, counts } => {
-                let update = update_of_race(alloc, kept, scoring, rules, race, counts, work)?;
-                Ok(update)
+                update_of_race(alloc, kept, scoring, rules, race, counts, work)
             }
         }
     }
@@ -251,7 +250,7 @@ impl Update {
                 sheets,
                 ranking,
             } => {
-                kept.put_boats(boats, sheets);
+                kept.put_boats(boats, Box::into_inner(sheets));
                 scoring.lines.push_reserved(BoatLine::empty());
                 scoring.ranking = ranking;
             }
@@ -262,7 +261,7 @@ impl Update {
                 lines,
                 ranking,
             } => {
-                kept.put_boats(boats, sheets);
+                kept.put_boats(boats, Box::into_inner(sheets));
                 scoring.columns = columns;
                 scoring.lines = lines;
                 scoring.ranking = ranking;

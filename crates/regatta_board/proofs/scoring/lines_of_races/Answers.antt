@@ -6,15 +6,15 @@ use Rattle.regatta_board.proofs.scoring.lines_of_races.Goals as goal
 pub whole_lines-requires-clause-even : goal.whole_lines-requires-clause-even
 whole_lines-requires-clause-even c =
     subst (λ cs. All (λ column. length column ≡ c.args.boats) cs)
-    (sym (c.deref.ensures.0 ∙ c.push_columns.ensures)) c.requires.even
+    (sym (c.deref.ensures.value ∙ c.in_ok-found.ensures)) c.requires.even
 
 pub whole_lines-requires-clause-few : goal.whole_lines-requires-clause-few
 whole_lines-requires-clause-few c =
-    columns_few _ c.args.races.now c.deref.result.now (c.deref.ensures.0 ∙ c.push_columns.ensures)
+    columns_few _ c.args.races.now c.deref.result.now (c.deref.ensures.value ∙ c.in_ok-found.ensures)
     c.requires.few
 
 pub returns-clause-value : goal.returns-clause-value
 returns-clause-value c =
     c.in_ok-lines.ensures.value
     ∙ ap (λ cs. lines c.args.rules.now cs c.args.boats)
-    (c.deref.ensures.0 ∙ c.push_columns.ensures)
+    (c.deref.ensures.value ∙ c.in_ok-found.ensures)

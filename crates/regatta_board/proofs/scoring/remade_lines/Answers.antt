@@ -1,6 +1,5 @@
 use Rattle.std.proofs.Common.{◌≡◌, ◌-◌, ◌∙◌, [], ap, arith, subst, length, get_or, Some}
 use Rattle.std.proofs.lemmas.Grind.{common_steps}
-use Rattle.std.proofs.lemmas.List.{length-map}
 use Rattle.regatta_board.specs.Scoring.{Scoring, AreNewLines, columns_in, with_column}
 use Rattle.regatta_board.specs.Table.{lines}
 use Rattle.regatta_board.proofs.scoring.remade_lines.Goals as goal
@@ -18,7 +17,7 @@ each c =
     c.deref.ensures.value ∙ ap (λ (s : Scoring). s.columns) c.scoring.view_is in
     let rs : c.as_slice.result.now ≡ c.args.scoring.now.races =
     c.as_slice.ensures ∙ ap (λ (s : Scoring). s.races) c.scoring.view_is in
-    c.deref-3.ensures.0 ∙ c.push_columns.ensures
+    c.deref-3.ensures.value ∙ c.in_ok-found.ensures
     ∙ (λ i. columns_in (with_column (cols i) (Some c.args.column.now)) (rs i))
 
 pub changed_lines-requires : goal.changed_lines-requires
@@ -35,7 +34,7 @@ returns c =
     c.deref.ensures.value ∙ ap (λ (s : Scoring). s.columns) c.scoring.view_is in
     let rs : c.as_slice.result.now ≡ l.races =
     c.as_slice.ensures ∙ ap (λ (s : Scoring). s.races) c.scoring.view_is in
-    let found = c.deref-3.ensures.0 ∙ c.push_columns.ensures
+    let found = c.deref-3.ensures.value ∙ c.in_ok-found.ensures
     ∙ (λ i. columns_in (with_column (cols i) (Some c.args.column.now)) (rs i)) in
     let lines_are : c.deref-2.result.now ≡ l.lines =
     c.deref-2.ensures.value ∙ ap (λ (s : Scoring). s.lines) c.scoring.view_is in
@@ -43,14 +42,3 @@ returns c =
     c.in_ok-lines.lines.items) found
     (subst (λ xs. AreNewLines xs (lines c.args.rules.now c.deref-3.result.now (length xs))
     c.in_ok-lines.lines.items) lines_are c.in_ok-lines.ensures)
-
-pub push_columns-requires-clause-few : goal.push_columns-requires-clause-few
-push_columns-requires-clause-few c =
-    let l = c.args.scoring.now in
-    omega (
-      arith,
-      c.requires.turned.few,
-      length-map l.races (λ race. get_or (with_column l.columns (Some c.args.column.now)) (race - 1) []),
-      ap length c.as_slice.ensures,
-      ap (λ (s : Scoring). length s.races) c.scoring.view_is,
-    )

@@ -13,7 +13,7 @@ loop-boat-preserved c =
     let sheet = c.args.sheet.now in
     let boat = c.loop-boat.boat in
     let by = plain nat_eq rules (race_of sheet.order sheet.held) in
-    let hers : c.plain.result ≡ by boat = c.plain.ensures
+    let hers : c.plain.result ≡ by boat = (rw c.entered-entered.ensures at c.plain.ensures)
     ∙ plain_at sheet _ c.in_ok-placed.placed.items c.all_held-held.ensures
     (rw c.order-order.ensures.value at c.in_ok-placed.ensures) rules boat
     c.index-held-boat.result c.index.result.now c.dnf-dnf.result (omega arith) c.index-held-boat.is

@@ -12,7 +12,7 @@ loop-boat-preserved c =
     let sheet = c.args.sheet.now in
     let boat = c.loop-boat.boat in
     let by = race_score rules sheet in
-    let hers : c.race_score.result ≡ by boat = c.race_score.ensures
+    let hers : c.race_score.result ≡ by boat = (rw c.entered-entered.ensures at c.race_score.ensures)
     ∙ score_at sheet _ c.in_ok-placed.placed.items c.all_held-held.ensures
     (rw c.order-order.ensures.value at c.in_ok-placed.ensures) rules boat
     c.index-held-boat.result c.index.result.now c.dnf-dnf.result (omega arith) c.index-held-boat.is

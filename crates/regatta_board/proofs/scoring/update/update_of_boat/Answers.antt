@@ -26,6 +26,8 @@ returns-then-is_empty-clause-value c =
     let a = c.args in
     let may = c.requires.may in
     let new = c.in_ok-boats in
+    let boxed = c.in_ok-sheets.sheets in
+    let sheets = c.in_ok-sheets.ensures.ok ∙ new.ensures.sheets in
     let ranking = c.in_ok-ranking.ranking in
     let ls : c.deref.result.now ≡ a.scoring.now.lines =
     c.deref.ensures.value ∙ ap (λ (s : Scoring). s.lines) c.scoring.view_is in
@@ -35,9 +37,9 @@ returns-then-is_empty-clause-value c =
     let one : length new.boats ≡ length a.kept.now.sails + 1 =
     omega (arith, ap length new.ensures.boats, length-append a.kept.now.sails (a.sail ∷ [])) in
     subst (λ (k : Kept). IsUpdate a.rules.now a.kept.now k
-    (update.Added new.boats new.sheets ranking))
-    (boat_step a.kept.now a.sail new.ensures.boats new.ensures.sheets)
-    (added_update may.scoring new.boats new.sheets may.kept
+    (update.Added new.boats boxed ranking))
+    (boat_step a.kept.now a.sail new.ensures.boats sheets)
+    (added_update may.scoring new.boats boxed may.kept
     (sym rs ∙ none_there _ (sym c.is_empty.ensures ∙ c.if-is_empty.true)) one
     (omega (arith, one, may.fits.0)) ranking
     (subst (λ xs. IsRanking (xs ++ no_line ∷ []) ranking) ls
@@ -82,21 +84,23 @@ returns-clause-value c =
     let a = c.args in
     let may = c.requires.may in
     let new = c.in_ok-boats in
-    let fleet : Kept = record a.kept.now { sails = new.boats; sheets = new.sheets } in
-    let turns = boat_step a.kept.now a.sail new.ensures.boats new.ensures.sheets in
+    let boxed = c.in_ok-sheets-2.sheets in
+    let sheets = c.in_ok-sheets-2.ensures.ok in
+    let fleet : Kept = record a.kept.now { sails = new.boats; sheets = boxed.value } in
+    let turns = boat_step a.kept.now a.sail new.ensures.boats (sheets ∙ new.ensures.sheets) in
     let whole : IsKept fleet = subst IsKept (sym turns) may.whole in
     let made = c.in_ok-lines.lines in
     let ranking = c.in_ok-ranking-2.ranking in
     let rs : c.as_slice-races.result.now ≡ races a.kept.now.counts =
     c.as_slice-races.ensures ∙ ap (λ (s : Scoring). s.races) c.scoring.view_is
     ∙ may.scoring.races in
-    let are : AreColumns a.rules.now new.sheets a.kept.now.counts c.in_ok-columns.columns.items =
-    rw (← c.counts.ensures) c.in_ok-columns.ensures.value in
-    let found : AreColumns a.rules.now new.sheets a.kept.now.counts c.deref-2.result.now =
+    let are : AreColumns a.rules.now boxed.value a.kept.now.counts c.in_ok-columns.columns.items =
+    rw (sheets, ← c.counts.ensures) c.in_ok-columns.ensures.value in
+    let found : AreColumns a.rules.now boxed.value a.kept.now.counts c.deref-2.result.now =
     rw c.deref-2.ensures.value are in
     subst (λ (k : Kept). IsUpdate a.rules.now a.kept.now k
-    (update.Entered new.boats new.sheets c.in_ok-columns.columns made ranking)) turns
-    (entered_update may.scoring new.boats new.sheets c.in_ok-columns.columns
+    (update.Entered new.boats boxed c.in_ok-columns.columns made ranking)) turns
+    (entered_update may.scoring new.boats boxed c.in_ok-columns.columns
     c.in_ok-columns.ensures.long are made c.in_ok-lines.ensures.room
     (c.in_ok-lines.ensures.value
     ∙ found_lines a.rules.now fleet whole c.deref-2.result.now found rs refl c.len.result c.len.ensures)

@@ -31,10 +31,12 @@ pub returns-then-at-new : goal.returns-then-at-new
 returns-then-at-new c =
     let l = c.self.inside in
     let at = c.index.result.now in
-    ap (λ (new : NewLine). new.line)
-    (get_or_default l.new.now at c.index-new-at.result no_new (omega arith))
+    rw c.from-at.ensures
+    (ap (λ (new : NewLine). new.line)
+    (get_or_default l.new.now at c.index-new-at.result no_new (omega (arith, c.from-at.ensures)))
     ∙ looked_by l.new.now l.old.now l.positions.items _ c.args.boat at c.self.invariant
-    c.self.view_is c.requires c.index.ensures true (lt-ltb at (length l.new.now) (omega arith))
+    c.self.view_is c.requires c.index.ensures true
+    (lt-ltb at (length l.new.now) (omega (arith, c.from-at.ensures))))
 
 pub returns-else-at-new : goal.returns-else-at-new
 returns-else-at-new c =
@@ -45,4 +47,5 @@ returns-else-at-new c =
     c.index-old-boat.is
     ∙ get_or_default l.old.now c.args.boat c.index-old-boat.result no_line within
     ∙ looked_by l.new.now l.old.now l.positions.items _ c.args.boat at c.self.invariant
-    c.self.view_is c.requires c.index.ensures false (le-ltb at (length l.new.now) (omega arith))
+    c.self.view_is c.requires c.index.ensures false
+    (le-ltb at (length l.new.now) (omega (arith, c.from-at.ensures)))
