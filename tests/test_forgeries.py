@@ -325,6 +325,8 @@ class Forgeries(ForgedPages):
         views = self.called(("a", "Zo\u00eb Kiel"), ("b", "Zoe\u0308 Kiel"), ("c", "Zo\u00eb \u212aiel"), ("d", "Zoe Kiel"))
         self.assertEqual(labels_of(views), ["Zo\u00eb Kiel (a)", "Zoe\u0308 Kiel (b)", "Zo\u00eb \u212aiel (c)", "Zoe Kiel"])
         self.assertEqual(labels_of(self.called(("\u00fc", "x"), ("u\u0308", "x"))), ["x (\u00fc)", "x (u%CC%88)"])
+        # Not each Python knows that this sign means an A.
+        self.assertEqual(labels_of(self.called(("a", "Star \U0001f130"), ("b", "Star A"))), ["Star \U0001f130", "Star A"])
         status, said = self.said(notice(views))
         self.assertEqual(status, 0, said)
 

@@ -287,6 +287,13 @@ class Pages(helpers.Series):
             self.write(text, "tide", "decisions.txt")
             with self.subTest(text=text):
                 self.verifier.verified(self.page())
+        # Signs and letters that not each Python knows are said alike by all, so that a page is the same.
+        self.write("race 1 GBR\U0001fae87 PRP 30%\nrace 1 GBR7 DPI \ua7c010\nrace 1 GBR7 \U0001df00 foo\n", "tide", "decisions.txt")
+        page = self.page()
+        for text in ("the sail &quot;GBR\U0001fae87&quot; has the sign U+1FAE8.", "or points, and not &#x27;\\ua7c010&#x27;.",
+                     "decisions.txt, line 3: foo is no kind of decision"):
+            self.assertIn(text, page)
+        self.verifier.verified(page)
         for lines in (1000, 1001):
             self.write("\n" * lines, "tide", "decisions.txt")
             with self.subTest(lines=lines):

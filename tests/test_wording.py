@@ -1,11 +1,12 @@
 """What the package says of numbers, signs and faults."""
 from __future__ import annotations
 
+import hashlib
 import os
 import unittest
 
 import helpers
-from raceoffice import wording
+from raceoffice import characters, remarks, wording
 from raceoffice.program import messages
 
 
@@ -22,6 +23,36 @@ class Words(unittest.TestCase):
         self.assertEqual(wording.sign("\u00a0"), "a no-break space (U+00A0), which looks like a space")
         self.assertEqual(wording.sign("\u200b"), "the invisible sign U+200B")
         self.assertEqual(wording.sign("é"), "the sign 'é'")
+
+    def test_signs_of_all(self) -> None:
+        """Signs, words and names are the same in every Python: what Unicode 3.2 doesn't know is shown by its number, and isn't
+        said to be invisible."""
+        for letter, name, kind, shown in [("\U0001fae8", "the sign U+1FAE8", "sign-seen", "U+1FAE8"),
+                                          ("\U0001f6a4", "the sign U+1F6A4", "sign-seen", "U+1F6A4"),
+                                          ("\ue000", "the sign U+E000", "sign-seen", "U+E000"),
+                                          ("\u2066", "the sign U+2066", "sign-seen", "U+2066"),
+                                          ("\u00ad", "the invisible sign U+00AD", "sign-unseen", "U+00AD"),
+                                          ("\u202e", "the invisible sign U+202E", "sign-unseen", "U+202E"),
+                                          ("\u0416", "the sign '\u0416'", "sign-seen", "\u0416"),
+                                          ("\u4e00", "the sign '\u4e00'", "sign-seen", "\u4e00"), ("'", "the sign \"'\"", "sign-seen", "'")]:
+            made = remarks.sign_remark(letter)
+            self.assertEqual((wording.sign(letter), made.kind, made.values), (name, kind, {"name": name, "sign": shown}))
+        for text, shown in [("a\u0416 '\\\u4e00", "\"a\u0416 '\\\\\u4e00\""), ("'\"", "'\\'\"'"), ("", "''"),
+                            ("\U0001fae8\u2066\u202e\x1b", "'\\U0001fae8\\u2066\\u202e\\x1b'")]:
+            self.assertEqual(repr(characters.Written(text)), shown)
+        # Unicode 3.2 doesn't know three of these, of which newer ones make other signs.
+        for text, form in [("Zoe\u0308 \u212a", "Zo\u00eb K"), ("\ufb01\u3000", "fi "), ("\U00011935\U00011930", "\U00011935\U00011930"),
+                           ("\U0001e030e\u0301", "\U0001e030\u00e9")]:
+            self.assertEqual(characters.in_one_form(text), form)
+        self.assertEqual([characters.is_word(text) for text in ("D\u0416", "D1", "D\U0001e030", "\u1c89")], [True, False, False, False])
+
+    def test_known_of_old(self) -> None:
+        """What each Python is known to say of the signs of Unicode 3.2."""
+        known = list(filter(characters.is_known, map(chr, range(0x110000))))
+        self.assertEqual([len(known), *(sum(map(has, known)) for has in (characters.is_unseen, characters.is_word))], [95221, 216, 89957])
+        forms = "|".join(map(characters.in_one_form, known)).encode()
+        self.assertEqual(hashlib.sha256(forms).hexdigest()[:16], "df598d6249d70fdf")
+        self.assertEqual([sign for sign in known if not characters.is_unseen(sign) and not sign.isprintable()], [])
 
     def test_names(self) -> None:
         """What isn't seen, or lies over the lines around, is no part of a name."""

@@ -7,13 +7,13 @@ import datetime
 import functools
 import json
 import re
-import unicodedata
 import urllib.parse
 import zoneinfo
 from collections.abc import Sequence
 from dataclasses import dataclass, field
 
 from raceoffice import time_zones
+from raceoffice.characters import in_one_form
 from raceoffice.decisions.points import Decided
 from raceoffice.program.journal import Race, Series
 from raceoffice.program.standing import Ranks, Row, Score, Standing, tie_break
@@ -167,14 +167,14 @@ def labels_of(views: Sequence[Snapshot]) -> list[str]:
 def looking_alike(texts: Sequence[str]) -> set[int]:
     """The places of texts that look as another does: spaces in a row are one, as a browser shows them, and signs that
     Unicode holds for the same are the same, as a letter with its mark and both in one sign."""
-    seen = [" ".join(unicodedata.normalize("NFKC", text).split()) for text in texts]
+    seen = [" ".join(in_one_form(text).split()) for text in texts]
     often = collections.Counter(seen)
     return {at for at, text in enumerate(seen) if often[text] > 1}
 
 
 def folder_shown(name: str) -> str:
     """The name of a folder, or what stands for it in an address: no two look alike."""
-    return name if FOLDER.fullmatch(name) and unicodedata.is_normalized("NFKC", name) else urllib.parse.quote(name, safe="")
+    return name if FOLDER.fullmatch(name) and in_one_form(name) == name else urllib.parse.quote(name, safe="")
 
 
 def told_apart(views: Sequence[Snapshot]) -> list[Snapshot]:
