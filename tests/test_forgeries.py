@@ -23,6 +23,7 @@ import helpers
 
 from allowed import odd_parts
 from forger import ForgedPages, Forger, Path, journal_of, put, resealed, seals, whole_of
+from raceoffice import characters
 from raceoffice.errors import ForeignPage, Unsure
 from raceoffice.program import replay
 from raceoffice.results.html.listing import listing
@@ -329,6 +330,29 @@ class Forgeries(ForgedPages):
         self.assertEqual(labels_of(self.called(("a", "Star \U0001f130"), ("b", "Star A"))), ["Star \U0001f130", "Star A"])
         status, said = self.said(notice(views))
         self.assertEqual(status, 0, said)
+
+    def test_long_names(self) -> None:
+        """Series whose names or headings are too long to be looked at are told apart by their folders, each name is looked at
+        once, and marks without end keep nobody waiting."""
+        marks = "A" + "\u0315" * 200_000 + "\u0316" * 200_000
+        looked: list[str] = []
+
+        def form(text: str) -> str:
+            looked.append(text)
+            return characters.in_one_form(text)
+
+        with unittest.mock.patch("raceoffice.results.snapshot.in_one_form", form):
+            for names, wanted in [((marks, "Star", marks + "x"), [f"{marks} (a0)", "Star", f"{marks}x (a2)"]), ((marks,), [marks]),
+                                  (("x" * 1000, "Star"), [f"{'x' * 1000} (a0)", "Star"])]:
+                self.assertEqual(labels_of(self.called(*((f"a{at}", name) for at, name in enumerate(names)))), wanted)
+            self.assertEqual(max(map(len, looked)), 1000)
+            looked.clear()
+            # Each is called as the one before it with its folder.
+            names = ("x", *("x" + "".join(f" (a{at})" for at in range(many)) for many in range(20)))
+            found = labels_of(self.called(*((f"a{at}", name) for at, name in enumerate(names))))
+        self.assertEqual((len(set(found)), len(looked)), (len(names), len(set(looked))))
+        self.assertTrue(self.is_verified(notice(self.called(("a", marks), ("b", "Star")))))
+        self.assertTrue(self.is_verified(self.forged("alone", ("series", 0, "settings", "class"), marks)))
 
     def test_classes_on_a_poor_terminal(self) -> None:
         """Classes that the terminal's letters don't tell apart have their places on the page said."""

@@ -23,6 +23,9 @@ from raceoffice.series.settings import Settings
 
 # The name of a folder that is shown as it is: in brackets it can't be taken for the end of what is before them.
 FOLDER = re.compile(r"[^\s(%]+(?: [^\s(%]+)*")
+# The most signs of what a series is called, or headed, beside which others are looked at: to put marks in order takes the
+# square of their number.
+LONGEST = 1000
 CHANGED = "The results have changed since they were declared {}."
 
 
@@ -152,11 +155,11 @@ class Snapshot:
 
 def labels_of(views: Sequence[Snapshot]) -> list[str]:
     """What each series is called: no two look alike, and no two headings with them. A series has its folder's name with it
-    if another is called or headed the same, or would be with its own."""
-    labels, named = [view.label for view in views], set[int]()
+    if another is called or headed the same, or would be with its own, or if it is called or headed too long to say."""
+    labels, named, forms = [view.label for view in views], set[int](), dict[str, str]()
     while True:
         headings = [view.heading(label) for view, label in zip(views, labels)]
-        alike = (looking_alike(labels) | looking_alike(headings)) - named
+        alike = (looking_alike(labels, forms) | looking_alike(headings, forms)) - named
         if not alike:
             return labels
         for at in alike:
@@ -164,12 +167,18 @@ def labels_of(views: Sequence[Snapshot]) -> list[str]:
         named |= alike
 
 
-def looking_alike(texts: Sequence[str]) -> set[int]:
-    """The places of texts that look as another does: spaces in a row are one, as a browser shows them, and signs that
-    Unicode holds for the same are the same, as a letter with its mark and both in one sign."""
-    seen = [" ".join(in_one_form(text).split()) for text in texts]
+def looking_alike(texts: Sequence[str], forms: dict[str, str]) -> set[int]:
+    """The places of texts that look as another does, or are too long to say: spaces in a row are one, as a browser shows
+    them, and signs that Unicode holds for the same are the same, as a letter with its mark and both in one sign. `forms` are
+    those that were looked at before."""
+    seen = [forms[text] if text in forms else forms.setdefault(text, form_of(text)) for text in texts]
     often = collections.Counter(seen)
-    return {at for at, text in enumerate(seen) if often[text] > 1}
+    return {at for at, form in enumerate(seen) if often[form] > 1 or len(texts) > 1 and len(texts[at]) > LONGEST}
+
+
+def form_of(text: str) -> str:
+    """A text that is the same for all that look alike; empty if it is too long."""
+    return " ".join(in_one_form(text).split()) if len(text) <= LONGEST else ""
 
 
 def folder_shown(name: str) -> str:

@@ -241,7 +241,7 @@ def value_of(rebuilt: Rebuilt, program: str) -> dict[str, object]:
 def classes_named(rebuilt: Rebuilt) -> list[str]:
     """How each class is named: by its place on the page, too, if what is shown of its name looks as that of another does."""
     shown = [as_put_out(quoted(label)) for label in labels_of(rebuilt.views)]
-    alike = looking_alike(shown)
+    alike = looking_alike(shown, {})
     return [f"Class {at + 1} of the page, {name}" if at in alike else f"Class {name}" for at, name in enumerate(shown)]
 
 
