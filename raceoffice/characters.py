@@ -87,7 +87,7 @@ def is_unseen(sign: str) -> bool:
 
 def is_word(text: str) -> bool:
     """Whether a text has letters alone, and every Python knows these."""
-    return all(OF_ALL.category(sign)[0] == "L" for sign in text)
+    return all(OF_ALL.category(sign)[0] == "L" for sign in set(text))
 
 
 def number_of(sign: str) -> str:
@@ -107,9 +107,9 @@ class Written(str):
 
     def __repr__(self) -> str:
         mark = '"' if "'" in self and '"' not in self else "'"
-        shown = (f"\\{sign}" if sign in ("\\", mark) else sign if is_known(sign) and not is_unseen(sign) else code_of(sign)
-                 for sign in self)
-        return f"{mark}{''.join(shown)}{mark}"
+        numbered = {ord(sign): code_of(sign) for sign in set(self) if is_unseen(sign) or not is_known(sign)}
+        shown = self.translate({**numbered, ord("\\"): "\\\\", ord(mark): f"\\{mark}"})
+        return f"{mark}{shown}{mark}"
 
 
 # What is shown
