@@ -17,6 +17,7 @@ import tracemalloc
 import unicodedata
 import unittest
 import unittest.mock
+from collections.abc import Callable
 from typing import Any
 
 import helpers
@@ -261,14 +262,42 @@ class Forgeries(ForgedPages):
 
         late = 1000
         verifier.Verifier(helpers.PROGRAM, now).verified(self.made["both"])
-        # The time is looked at before each of two series, in them, and before the page is compared.
+        # The time is looked at before each of two series, in them, before each is written, and before each table is compared.
+        right = looks
+        self.assertGreaterEqual(right, 2 * 5 + 3)
+        forged, looks = self.made["both"].replace("1<i>.0", "9<i>.0", 1), 0
+        with self.assertRaises(ForeignPage):
+            verifier.Verifier(helpers.PROGRAM, now).verified(forged)
+        # It is looked at while the first difference is looked for, too.
         most = looks
-        self.assertGreaterEqual(most, 2 * 3 + 2)
+        self.assertGreater(most, right)
         for late in range(1, most):
             looks = 0
-            with self.assertRaisesRegex(Unsure, "^its series take longer than 300 seconds to score$"):
-                verifier.Verifier(helpers.PROGRAM, now).verified(self.made["both"])
+            with self.assertRaisesRegex(Unsure, "^it takes longer than 300 seconds to score and to compare$"):
+                verifier.Verifier(helpers.PROGRAM, now).verified(forged)
             self.assertEqual(looks, late + 1)
+        looks, late = 0, 1000
+        visible.Seen("<p>x" * 20_000, lambda: None if now() else None)
+        self.assertEqual(looks, 5)
+
+    def test_time_of_each(self) -> None:
+        """Each page has its own time, also if it carries what another did."""
+        moment = 0.0
+        patient = verifier.Verifier(helpers.PROGRAM, lambda: moment)
+        patient.verified(self.made["both"])
+        moment = 1000.0
+        with self.assertRaises(ForeignPage):
+            patient.verified(self.made["both"].replace("1<i>.0", "9<i>.0", 1))
+
+    def test_tables_longer_than_the_page(self) -> None:
+        """A small page may carry series whose tables would be without end: they aren't written."""
+        sails = [str(number) for number in range(1, 501)]
+        folder = self.make("wide", "\n".join(["Sail", *sails, ""]), exclude="none")
+        journal = journal_of(folder, *(line for race in range(1, 41) for line in (f"FINISH {race} {race}", f"SCORE {race}")))
+        for kind in ("alone", "overall", "top"):
+            page = resealed(self.made[kind], lambda whole: whole["series"][0].update(journal=journal.splitlines()[1:]))
+            with unittest.mock.patch.object(verifier, "page_of", side_effect=AssertionError("page_of")):
+                self.assertEqual(self.why(page), "it is shorter than the tables of its series are")
 
     def test_classes_of_one_name(self) -> None:
         """Classes that are called the same are told apart by their folders, so that each seal is one's own."""
@@ -585,7 +614,8 @@ class Forgeries(ForgedPages):
 
     def test_hundred_series(self) -> None:
         """Of a page of more series than are worked out nothing can be said: an office may have as many."""
-        for kind, make in ("list", listing), ("results", notice):
+        makes: dict[str, Callable[[list[Snapshot]], str]] = {"list": listing, "results": notice}
+        for kind, make in makes.items():
             page = make([dataclasses.replace(self.tide, name=f"tide-{at}") for at in range(101)])
             shown = page if kind == "results" else confirmed(page, "2026-03-01T10:00:00+00:00", "once")
             with self.assertRaisesRegex(Unsure, "^it has 101 series, and more than 100 take too long to score$"):
