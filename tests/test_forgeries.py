@@ -511,14 +511,14 @@ class Forgeries(ForgedPages):
     # Size and time
 
     def test_long(self) -> None:
-        """A page that is longer than what is read isn't verified, wherever it is cut."""
+        """Of a page that is longer than what is read nothing can be said, wherever it is cut."""
         page = self.made["results"]
         with unittest.mock.patch.object(verifier, "LARGEST", len(page.encode())):
             self.assertEqual(self.said(page)[0], 0)
             for more in (" ", ANOTHER):
                 status, said = self.said(page + more)
-                self.assertEqual(status, 1)
-                self.assertIn("it is longer than", said)
+                self.assertEqual(status, 2)
+                self.assertRegex(said, "it is longer than [0-9,]+ bytes, and no more are read")
             status, said = self.said("\0" * (len(page.encode()) + 1))
             self.assertEqual(status, 2)
             self.assertIn("it is no page of results", said)

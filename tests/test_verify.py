@@ -103,12 +103,13 @@ class Pages(helpers.Series):
         self.assertGreater(sum("Overall results, " in text for text in said["table"]), COUNT // 50)
 
     def test_long_block(self) -> None:
-        """A block that would take gigabytes is refused before it is read."""
+        """Of a page whose block would take gigabytes nothing can be said: it isn't read."""
         page = self.page()
         begin = page.index(page_data.START) + len(page_data.START)
         room = page_data.BLOCK - len(page_data.block_of(page))
         self.assertNotIn("longer", self.odd(page[:begin] + " " * room + page[begin:]))
-        self.assertIn("the block is longer than 12,582,912 characters", self.odd(page[:begin] + " " * (room + 1) + page[begin:]))
+        with self.assertRaisesRegex(Unsure, "^its block is longer than 12,582,912 characters, and no more are read$"):
+            self.verifier.verified(page[:begin] + " " * (room + 1) + page[begin:])
 
     def test_named(self) -> None:
         """The first cell, line or setting that differs is named."""

@@ -315,7 +315,7 @@ def text_of_page(path: str) -> str:
         raise Unsure(f"it can't be read: {cause.strerror}") from None
     if len(data) > LARGEST:
         need_block(data)
-        raise ForeignPage(f"it is longer than {LARGEST:,} bytes, and no page is")
+        raise Unsure(f"it is longer than {LARGEST:,} bytes, and no more are read")
     try:
         return data.decode("utf-8")
     except UnicodeDecodeError as cause:
