@@ -337,6 +337,19 @@ then exec sleep 60; fi\n: > {self.here}/once\nexec {helpers.PROGRAM} "$@\"""")]:
             time.tzset()
             self.assertRegex(page, rf"<time [^>]*>[^<]*, [0-9:]{{5}} {words}</time>")
 
+    def test_old_files(self) -> None:
+        """A series whose files are dated before 1970 changed then, and its page is verified."""
+        for zone, words in ("", ""), ("America/New_York", "Wed 31 Dec 1969, 19:00 EST (UTC-5)"):
+            for seconds in (-1, -2_000_000_000):
+                name = f"old{zone[:1]}{seconds}"
+                folder = self.make(name, zone=zone, state="final")
+                self.write(journal_of(folder, "FINISH 1 GBR7", "SCORE 1"), name, "journal.txt")
+                for file in ("journal.txt", "series.ini"):
+                    os.utime(os.path.join(folder, file), (seconds, seconds))
+                page = self.page(name)
+                self.assertIn(f'<time datetime="1970-01-01T00:00:00+00:00">{words}', page)
+                self.verifier.verified(page)
+
     def test_unknown_zone(self) -> None:
         """Nor can it say so of a page whose zone it doesn't know, as that of newer data."""
         self.make("named", zone="Europe/Lisbon")
