@@ -96,9 +96,22 @@ def number_of(sign: str) -> str:
 
 
 def in_one_form(text: str) -> str:
-    """A text in which signs that mean the same are the same (NFKC). Those that not every Python knows stay as they are."""
+    """A text in which signs that mean the same are the same (NFKD). Those that not every Python knows stay as they are. The
+    tools of Python would take the square of the number of marks in a row."""
+    parted = text.translate({ord(sign): OF_ALL.normalize("NFKD", sign) for sign in set(text) if is_known(sign)})
+    marks = "".join(filter(OF_ALL.combining, set(parted)))
+    return re.sub(f"[{re.escape(marks)}]{{2,}}", in_order, parted) if marks else parted
+
+
+def in_order(marks: re.Match[str]) -> str:
+    """Marks in the order that Unicode gives them."""
+    return "".join(sorted(marks[0], key=OF_ALL.combining))
+
+
+def is_composed(name: str) -> bool:
+    """Whether the name of a file is as short as one that means the same can be (NFKC)."""
     return "".join(OF_ALL.normalize("NFKC", "".join(part)) if known else "".join(part)
-                   for known, part in itertools.groupby(text, is_known))
+                   for known, part in itertools.groupby(name, is_known)) == name
 
 
 class Written(str):

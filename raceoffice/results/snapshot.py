@@ -13,7 +13,7 @@ from collections.abc import Sequence
 from dataclasses import dataclass, field
 
 from raceoffice import time_zones
-from raceoffice.characters import in_one_form
+from raceoffice.characters import in_one_form, is_composed
 from raceoffice.decisions.points import Decided
 from raceoffice.program.journal import Race, Series
 from raceoffice.program.standing import Ranks, Row, Score, Standing, tie_break
@@ -23,9 +23,6 @@ from raceoffice.series.settings import Settings
 
 # The name of a folder that is shown as it is: in brackets it can't be taken for the end of what is before them.
 FOLDER = re.compile(r"[^\s(%]+(?: [^\s(%]+)*")
-# The most signs of what a series is called, or headed, beside which others are looked at: to put marks in order takes the
-# square of their number.
-LONGEST = 1000
 CHANGED = "The results have changed since they were declared {}."
 
 
@@ -155,7 +152,7 @@ class Snapshot:
 
 def labels_of(views: Sequence[Snapshot]) -> list[str]:
     """What each series is called: no two look alike, and no two headings with them. A series has its folder's name with it
-    if another is called or headed the same, or would be with its own, or if it is called or headed too long to say."""
+    if another is called or headed the same, or would be with its own."""
     labels, named, forms = [view.label for view in views], set[int](), dict[str, str]()
     while True:
         headings = [view.heading(label) for view, label in zip(views, labels)]
@@ -168,22 +165,19 @@ def labels_of(views: Sequence[Snapshot]) -> list[str]:
 
 
 def looking_alike(texts: Sequence[str], forms: dict[str, str]) -> set[int]:
-    """The places of texts that look as another does, or are too long to say: spaces in a row are one, as a browser shows
-    them, and signs that Unicode holds for the same are the same, as a letter with its mark and both in one sign. `forms` are
-    those that were looked at before."""
-    seen = [forms[text] if text in forms else forms.setdefault(text, form_of(text)) for text in texts]
-    often = collections.Counter(seen)
-    return {at for at, form in enumerate(seen) if often[form] > 1 or len(texts) > 1 and len(texts[at]) > LONGEST}
-
-
-def form_of(text: str) -> str:
-    """A text that is the same for all that look alike; empty if it is too long."""
-    return " ".join(in_one_form(text).split()) if len(text) <= LONGEST else ""
+    """The places of texts that look as another does: spaces in a row are one, as a browser shows them, and signs that
+    Unicode holds for the same are the same, as a letter with its mark and both in one sign. `forms` has what was found of
+    texts before."""
+    for text in texts:
+        if text not in forms:
+            forms[text] = " ".join(in_one_form(text).split())
+    often = collections.Counter(forms[text] for text in texts)
+    return {at for at, text in enumerate(texts) if often[forms[text]] > 1}
 
 
 def folder_shown(name: str) -> str:
     """The name of a folder, or what stands for it in an address: no two look alike."""
-    return name if FOLDER.fullmatch(name) and in_one_form(name) == name else urllib.parse.quote(name, safe="")
+    return name if FOLDER.fullmatch(name) and is_composed(name) else urllib.parse.quote(name, safe="")
 
 
 def told_apart(views: Sequence[Snapshot]) -> list[Snapshot]:
