@@ -1,6 +1,8 @@
-"""Signs that aren't seen, or that move or strike out what is beside them."""
+"""Signs that aren't seen, or that move or strike out what is beside them, and what a page may say of signs in every
+Python."""
 from __future__ import annotations
 
+import itertools
 import re
 import unicodedata
 from collections.abc import Callable
@@ -19,6 +21,10 @@ MOST_MARKS = 3
 MOST, QUOTED = 100, 60
 # A sign that stands for a space.
 LIKE_A_SPACE = "\u2423"
+# Unicode 3.2, whose data every Python has. What a page says follows these alone: each Python has other new signs besides.
+OF_ALL = unicodedata.ucd_3_2_0
+# It calls this one a dash.
+SOFT_HYPHEN = "\u00ad"
 
 
 def utf8(text: str) -> bytes:
@@ -66,6 +72,60 @@ def is_piled(text: str) -> bool:
             return True
     return False
 
+
+# What is the same in every Python
+
+def is_known(sign: str) -> bool:
+    """Whether every Python knows a sign."""
+    return OF_ALL.category(sign) not in ("Cn", "Co", "Cs")
+
+
+def is_unseen(sign: str) -> bool:
+    """Whether every Python knows that a sign isn't seen."""
+    return is_known(sign) and (OF_ALL.category(sign)[0] in "CZ" or sign == SOFT_HYPHEN) and sign != " "
+
+
+def is_word(text: str) -> bool:
+    """Whether a text has letters alone, and every Python knows these."""
+    return all(OF_ALL.category(sign)[0] == "L" for sign in set(text))
+
+
+def number_of(sign: str) -> str:
+    """A sign as books have it: `U+1FAE8`."""
+    return f"U+{ord(sign):04X}"
+
+
+def in_one_form(text: str) -> str:
+    """A text in which signs that mean the same are the same (NFKD). Those that not every Python knows stay as they are. The
+    tools of Python would take the square of the number of marks in a row."""
+    parted = text.translate({ord(sign): OF_ALL.normalize("NFKD", sign) for sign in set(text) if is_known(sign)})
+    marks = "".join(filter(OF_ALL.combining, set(parted)))
+    return re.sub(f"[{re.escape(marks)}]{{2,}}", in_order, parted) if marks else parted
+
+
+def in_order(marks: re.Match[str]) -> str:
+    """Marks in the order that Unicode gives them."""
+    return "".join(sorted(marks[0], key=OF_ALL.combining))
+
+
+def is_composed(name: str) -> bool:
+    """Whether the name of a file is as short as one that means the same can be (NFKC)."""
+    return "".join(OF_ALL.normalize("NFKC", "".join(part)) if known else "".join(part)
+                   for known, part in itertools.groupby(name, is_known)) == name
+
+
+class Written(str):
+    """What somebody has written. In quotation marks it is the same in every Python: what isn't known to be seen is shown by
+    its number."""
+
+    def __repr__(self) -> str:
+        mark = '"' if "'" in self and '"' not in self else "'"
+        numbered = {ord(sign): code_of(sign) for sign in set(self) if is_unseen(sign) or not is_known(sign)}
+        shown = self.translate({**numbered, ord("\\"): "\\\\", ord(mark): f"\\{mark}"})
+        return f"{mark}{shown}{mark}"
+
+
+# What is shown
 
 def replaced(text: str, by: Callable[[str], str]) -> str:
     """A text in which each sign that isn't seen, or is one of a pile of marks, is replaced."""

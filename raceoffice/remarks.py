@@ -6,6 +6,7 @@ import errno
 from collections.abc import Mapping, Sequence
 from typing import Any, Union
 
+from raceoffice.characters import is_known, is_unseen, number_of
 from raceoffice.wording import joined, sign
 
 # Several may be named in one value. A remark may be inside another.
@@ -495,8 +496,8 @@ def remark(kind: str, /, **values: Value) -> Remark:
 def sign_remark(letter: str) -> Remark:
     """A sign by its name. Those that are seen say themselves what they are."""
     kind = ("sign-tab" if letter == "\t" else "sign-space" if letter in SPACES else "sign-dash" if letter in DASHES
-            else "sign-seen" if letter.isprintable() else "sign-unseen")
-    return remark(kind, name=sign(letter), sign=letter if kind == "sign-seen" else f"U+{ord(letter):04X}")
+            else "sign-unseen" if is_unseen(letter) else "sign-seen")
+    return remark(kind, name=sign(letter), sign=letter if kind == "sign-seen" and is_known(letter) else number_of(letter))
 
 
 def in_a_row(*said: str) -> Remark:

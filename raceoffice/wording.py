@@ -3,7 +3,7 @@ from __future__ import annotations
 
 from collections.abc import Sequence
 
-from raceoffice.characters import replaced
+from raceoffice.characters import is_known, is_unseen, number_of, replaced
 
 TIMES = ["no", "one", "two", "three", "four"]
 SIGNS = {"/": "a slash", "\\": "a backslash", ".": "a dot", ",": "a comma", "_": "an underscore",
@@ -49,9 +49,10 @@ def spans(numbers: list[int]) -> str:
 
 
 def sign(letter: str) -> str:
-    """A sign by its name."""
-    return SIGNS.get(letter, f"the sign {letter!r}" if letter.isprintable() else
-                     f"the invisible sign U+{ord(letter):04X}")
+    """A sign by its name, the same in every Python: one that not each knows by its number."""
+    if is_unseen(letter) and letter not in SIGNS:
+        return f"the invisible sign {number_of(letter)}"
+    return SIGNS.get(letter, f"the sign {letter!r}" if is_known(letter) else f"the sign {number_of(letter)}")
 
 
 def on_one_line(text: str) -> str:

@@ -17,12 +17,14 @@ import tracemalloc
 import unicodedata
 import unittest
 import unittest.mock
+from collections.abc import Callable
 from typing import Any
 
 import helpers
 
 from allowed import odd_parts
 from forger import ForgedPages, Forger, Path, journal_of, put, resealed, seals, whole_of
+from raceoffice import characters
 from raceoffice.errors import ForeignPage, Unsure
 from raceoffice.program import replay
 from raceoffice.results.html.listing import listing
@@ -260,14 +262,42 @@ class Forgeries(ForgedPages):
 
         late = 1000
         verifier.Verifier(helpers.PROGRAM, now).verified(self.made["both"])
-        # The time is looked at before each of two series, in them, and before the page is compared.
+        # The time is looked at before each of two series, in them, before each is written, and before each table is compared.
+        right = looks
+        self.assertGreaterEqual(right, 2 * 5 + 3)
+        forged, looks = self.made["both"].replace("1<i>.0", "9<i>.0", 1), 0
+        with self.assertRaises(ForeignPage):
+            verifier.Verifier(helpers.PROGRAM, now).verified(forged)
+        # It is looked at while the first difference is looked for, too.
         most = looks
-        self.assertGreaterEqual(most, 2 * 3 + 2)
+        self.assertGreater(most, right)
         for late in range(1, most):
             looks = 0
-            with self.assertRaisesRegex(Unsure, "^its series take longer than 300 seconds to score$"):
-                verifier.Verifier(helpers.PROGRAM, now).verified(self.made["both"])
+            with self.assertRaisesRegex(Unsure, "^it takes longer than 300 seconds to score and to compare$"):
+                verifier.Verifier(helpers.PROGRAM, now).verified(forged)
             self.assertEqual(looks, late + 1)
+        looks, late = 0, 1000
+        visible.Seen("<p>x" * 20_000, lambda: None if now() else None)
+        self.assertEqual(looks, 5)
+
+    def test_time_of_each(self) -> None:
+        """Each page has its own time, also if it carries what another did."""
+        moment = 0.0
+        patient = verifier.Verifier(helpers.PROGRAM, lambda: moment)
+        patient.verified(self.made["both"])
+        moment = 1000.0
+        with self.assertRaises(ForeignPage):
+            patient.verified(self.made["both"].replace("1<i>.0", "9<i>.0", 1))
+
+    def test_tables_longer_than_the_page(self) -> None:
+        """A small page may carry series whose tables would be without end: they aren't written."""
+        sails = [str(number) for number in range(1, 501)]
+        folder = self.make("wide", "\n".join(["Sail", *sails, ""]), exclude="none")
+        journal = journal_of(folder, *(line for race in range(1, 41) for line in (f"FINISH {race} {race}", f"SCORE {race}")))
+        for kind in ("alone", "overall", "top"):
+            page = resealed(self.made[kind], lambda whole: whole["series"][0].update(journal=journal.splitlines()[1:]))
+            with unittest.mock.patch.object(verifier, "page_of", side_effect=AssertionError("page_of")):
+                self.assertEqual(self.why(page), "it is shorter than the tables of its series are")
 
     def test_classes_of_one_name(self) -> None:
         """Classes that are called the same are told apart by their folders, so that each seal is one's own."""
@@ -325,8 +355,32 @@ class Forgeries(ForgedPages):
         views = self.called(("a", "Zo\u00eb Kiel"), ("b", "Zoe\u0308 Kiel"), ("c", "Zo\u00eb \u212aiel"), ("d", "Zoe Kiel"))
         self.assertEqual(labels_of(views), ["Zo\u00eb Kiel (a)", "Zoe\u0308 Kiel (b)", "Zo\u00eb \u212aiel (c)", "Zoe Kiel"])
         self.assertEqual(labels_of(self.called(("\u00fc", "x"), ("u\u0308", "x"))), ["x (\u00fc)", "x (u%CC%88)"])
+        # Not each Python knows that this sign means an A.
+        self.assertEqual(labels_of(self.called(("a", "Star \U0001f130"), ("b", "Star A"))), ["Star \U0001f130", "Star A"])
         status, said = self.said(notice(views))
         self.assertEqual(status, 0, said)
+
+    def test_long_names(self) -> None:
+        """Each name is looked at once to tell series apart, and marks without end keep nobody waiting."""
+        marks, same = (f"A{one * 50_000}{other * 50_000}" for one, other in (("\u0315", "\u0316"), ("\u0316", "\u0315")))
+        begun = time.process_time()
+        looked: list[str] = []
+
+        def form(text: str) -> str:
+            looked.append(text)
+            return characters.in_one_form(text)
+
+        with unittest.mock.patch("raceoffice.results.snapshot.in_one_form", form):
+            self.assertEqual(labels_of(self.called(("a", marks), ("b", "Star"), ("c", same), ("d", f"{same}x"))),
+                             [f"{marks} (a)", "Star", f"{same} (c)", f"{same}x"])
+            looked.clear()
+            # Each is called as the one before it with its folder.
+            names = ("x", *("x" + "".join(f" (a{at})" for at in range(many)) for many in range(20)))
+            found = labels_of(self.called(*((f"a{at}", name) for at, name in enumerate(names))))
+        self.assertEqual((len(set(found)), len(looked)), (len(names), len(set(looked))))
+        self.assertTrue(self.is_verified(notice(self.called(("a", marks), ("b", "Star")))))
+        self.assertTrue(self.is_verified(self.forged("alone", ("series", 0, "settings", "class"), marks)))
+        self.assertLess(time.process_time() - begun, 20)
 
     def test_classes_on_a_poor_terminal(self) -> None:
         """Classes that the terminal's letters don't tell apart have their places on the page said."""
@@ -456,14 +510,14 @@ class Forgeries(ForgedPages):
     # Size and time
 
     def test_long(self) -> None:
-        """A page that is longer than what is read isn't verified, wherever it is cut."""
+        """Of a page that is longer than what is read nothing can be said, wherever it is cut."""
         page = self.made["results"]
         with unittest.mock.patch.object(verifier, "LARGEST", len(page.encode())):
             self.assertEqual(self.said(page)[0], 0)
             for more in (" ", ANOTHER):
                 status, said = self.said(page + more)
-                self.assertEqual(status, 1)
-                self.assertIn("it is longer than", said)
+                self.assertEqual(status, 2)
+                self.assertRegex(said, "it is longer than [0-9,]+ bytes, and no more are read")
             status, said = self.said("\0" * (len(page.encode()) + 1))
             self.assertEqual(status, 2)
             self.assertIn("it is no page of results", said)
@@ -559,7 +613,8 @@ class Forgeries(ForgedPages):
 
     def test_hundred_series(self) -> None:
         """Of a page of more series than are worked out nothing can be said: an office may have as many."""
-        for kind, make in ("list", listing), ("results", notice):
+        makes: dict[str, Callable[[list[Snapshot]], str]] = {"list": listing, "results": notice}
+        for kind, make in makes.items():
             page = make([dataclasses.replace(self.tide, name=f"tide-{at}") for at in range(101)])
             shown = page if kind == "results" else confirmed(page, "2026-03-01T10:00:00+00:00", "once")
             with self.assertRaisesRegex(Unsure, "^it has 101 series, and more than 100 take too long to score$"):

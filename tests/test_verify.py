@@ -103,12 +103,13 @@ class Pages(helpers.Series):
         self.assertGreater(sum("Overall results, " in text for text in said["table"]), COUNT // 50)
 
     def test_long_block(self) -> None:
-        """A block that would take gigabytes is refused before it is read."""
+        """Of a page whose block would take gigabytes nothing can be said: it isn't read."""
         page = self.page()
         begin = page.index(page_data.START) + len(page_data.START)
         room = page_data.BLOCK - len(page_data.block_of(page))
         self.assertNotIn("longer", self.odd(page[:begin] + " " * room + page[begin:]))
-        self.assertIn("the block is longer than 12,582,912 characters", self.odd(page[:begin] + " " * (room + 1) + page[begin:]))
+        with self.assertRaisesRegex(Unsure, "^its block is longer than 12,582,912 characters, and no more are read$"):
+            self.verifier.verified(page[:begin] + " " * (room + 1) + page[begin:])
 
     def test_named(self) -> None:
         """The first cell, line or setting that differs is named."""
@@ -287,6 +288,13 @@ class Pages(helpers.Series):
             self.write(text, "tide", "decisions.txt")
             with self.subTest(text=text):
                 self.verifier.verified(self.page())
+        # Signs and letters that not each Python knows are said alike by all, so that a page is the same.
+        self.write("race 1 GBR\U0001fae87 PRP 30%\nrace 1 GBR7 DPI \ua7c010\nrace 1 GBR7 \U0001df00 foo\n", "tide", "decisions.txt")
+        page = self.page()
+        for text in ("the sail &quot;GBR\U0001fae87&quot; has the sign U+1FAE8.", "or points, and not &#x27;\\ua7c010&#x27;.",
+                     "decisions.txt, line 3: foo is no kind of decision"):
+            self.assertIn(text, page)
+        self.verifier.verified(page)
         for lines in (1000, 1001):
             self.write("\n" * lines, "tide", "decisions.txt")
             with self.subTest(lines=lines):
@@ -328,6 +336,19 @@ then exec sleep 60; fi\n: > {self.here}/once\nexec {helpers.PROGRAM} "$@\"""")]:
                 self.verifier.verified(page)
             time.tzset()
             self.assertRegex(page, rf"<time [^>]*>[^<]*, [0-9:]{{5}} {words}</time>")
+
+    def test_old_files(self) -> None:
+        """A series whose files are dated before 1970 changed then, and its page is verified."""
+        for zone, words in ("", ""), ("America/New_York", "Wed 31 Dec 1969, 19:00 EST (UTC-5)"):
+            for seconds in (-1, -2_000_000_000):
+                name = f"old{zone[:1]}{seconds}"
+                folder = self.make(name, zone=zone, state="final")
+                self.write(journal_of(folder, "FINISH 1 GBR7", "SCORE 1"), name, "journal.txt")
+                for file in ("journal.txt", "series.ini"):
+                    os.utime(os.path.join(folder, file), (seconds, seconds))
+                page = self.page(name)
+                self.assertIn(f'<time datetime="1970-01-01T00:00:00+00:00">{words}', page)
+                self.verifier.verified(page)
 
     def test_unknown_zone(self) -> None:
         """Nor can it say so of a page whose zone it doesn't know, as that of newer data."""

@@ -1,11 +1,14 @@
 """What the package says of numbers, signs and faults."""
 from __future__ import annotations
 
+import hashlib
 import os
+import random
+import unicodedata
 import unittest
 
 import helpers
-from raceoffice import wording
+from raceoffice import characters, remarks, wording
 from raceoffice.program import messages
 
 
@@ -22,6 +25,43 @@ class Words(unittest.TestCase):
         self.assertEqual(wording.sign("\u00a0"), "a no-break space (U+00A0), which looks like a space")
         self.assertEqual(wording.sign("\u200b"), "the invisible sign U+200B")
         self.assertEqual(wording.sign("é"), "the sign 'é'")
+
+    def test_signs_of_all(self) -> None:
+        """Signs, words and names are the same in every Python: what Unicode 3.2 doesn't know is shown by its number, and isn't
+        said to be invisible."""
+        for letter, name, kind, shown in [("\U0001fae8", "the sign U+1FAE8", "sign-seen", "U+1FAE8"),
+                                          ("\U0001f6a4", "the sign U+1F6A4", "sign-seen", "U+1F6A4"),
+                                          ("\ue000", "the sign U+E000", "sign-seen", "U+E000"),
+                                          ("\u2066", "the sign U+2066", "sign-seen", "U+2066"),
+                                          ("\u00ad", "the invisible sign U+00AD", "sign-unseen", "U+00AD"),
+                                          ("\u202e", "the invisible sign U+202E", "sign-unseen", "U+202E"),
+                                          ("\u0416", "the sign '\u0416'", "sign-seen", "\u0416"),
+                                          ("\u4e00", "the sign '\u4e00'", "sign-seen", "\u4e00"), ("'", "the sign \"'\"", "sign-seen", "'")]:
+            made = remarks.sign_remark(letter)
+            self.assertEqual((wording.sign(letter), made.kind, made.values), (name, kind, {"name": name, "sign": shown}))
+        for text, shown in [("a\u0416 '\\\u4e00", "\"a\u0416 '\\\\\u4e00\""), ("'\"", "'\\'\"'"), ("", "''"),
+                            ("\U0001fae8\u2066\u202e\x1b", "'\\U0001fae8\\u2066\\u202e\\x1b'")]:
+            self.assertEqual(repr(characters.Written(text)), shown)
+        # Unicode 3.2 doesn't know three of these, of which newer ones make other signs.
+        for text, form, is_composed in [
+                ("Zo\u00eb \u212a", "Zoe\u0308 K", False), ("\ufb01\u3000", "fi ", False), ("\uac00", "\u1100\u1161", True), ("a^-]", "a^-]", True),
+                ("\U00011935\U00011930", "\U00011935\U00011930", True), ("\U0001e030\u00e9\u0316", "\U0001e030e\u0316\u0301", True)]:
+            self.assertEqual((characters.in_one_form(text), characters.is_composed(text)), (form, is_composed))
+        self.assertEqual([characters.is_word(text) for text in ("D\u0416", "D1", "D\U0001e030", "\u1c89")], [True, False, False, False])
+
+    def test_known_of_old(self) -> None:
+        """What each Python is known to say of the signs of Unicode 3.2."""
+        known = list(filter(characters.is_known, map(chr, range(0x110000))))
+        self.assertEqual([len(known), *(sum(map(has, known)) for has in (characters.is_unseen, characters.is_word))], [95221, 216, 89957])
+        forms = "|".join(map(characters.in_one_form, known)).encode()
+        self.assertEqual(hashlib.sha256(forms).hexdigest()[:16], "27951bf6a63a4ef5")
+        self.assertEqual([sign for sign in known if not characters.is_unseen(sign) and not sign.isprintable()], [])
+        # Names in one form are those that Python makes, which takes longer.
+        chosen, marks = random.Random(7), [sign for sign in known if unicodedata.combining(sign)]
+        for _ in range(helpers.trials(500)):
+            text = "".join(chosen.choice(chosen.choice((marks, known))) for _ in range(chosen.randint(0, 12)))
+            self.assertEqual(characters.in_one_form(text), characters.OF_ALL.normalize("NFKD", text), ascii(text))
+            self.assertEqual(characters.is_composed(text), characters.OF_ALL.normalize("NFKC", text) == text, ascii(text))
 
     def test_names(self) -> None:
         """What isn't seen, or lies over the lines around, is no part of a name."""

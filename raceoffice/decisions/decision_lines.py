@@ -12,10 +12,11 @@ import re
 from collections.abc import Sequence
 from dataclasses import dataclass
 
+from raceoffice.characters import Written, is_word
 from raceoffice.errors import NotThere, Trouble
 from raceoffice.files import LARGEST_EDITED, read_whole
 from raceoffice.remarks import Remark, remark
-from raceoffice.series.entry_list import fault_of, plain
+from raceoffice.series.entry_list import RAISED, fault_of, plain
 from raceoffice.series.read_list import decoded
 from raceoffice.series.settings import rows_of
 from raceoffice.wording import joined
@@ -23,6 +24,8 @@ from raceoffice.wording import joined
 NAME = "decisions.txt"
 # The most lines: as many are verified. The most races that one names, and the letters of a word that may be like a kind.
 MOST, RACES_NAMED, LETTERS = 1000, 40, 40
+# The capitals of other alphabets stay as they are: not every Python knows them all.
+LOWERED = {large: small for small, large in RAISED.items()}
 PENALTIES = ("DPI", "PRP", "T1", "SCP")
 AVERAGES = ("AVG", "DUTY")
 KINDS = (*PENALTIES, "TLE", "NSC", *AVERAGES, "REINSTATE")
@@ -114,14 +117,14 @@ def ruling_of(text: str, line: int) -> Ruling:
     if not re.fullmatch("[0-9]{1,2}", words[1]) or not 1 <= int(words[1]) <= 40:
         raise NoRuling(remark("no-race", written=words[1]))
     if at is None:
-        odd = next((word for word in words[3:] if word.isalpha()), words[3])
-        near = difflib.get_close_matches(odd[:LETTERS].upper(), KINDS, 1)
+        odd = next((word for word in words[3:] if is_word(word)), words[3])
+        near = difflib.get_close_matches(odd[:LETTERS].translate(RAISED), KINDS, 1)
         raise NoRuling(remark("decision-like", written=odd, kinds=KINDS, near=near[0]) if near else
                        remark("decision-kind", written=odd, kinds=KINDS))
     sail, kind = plain("".join(words[2:at])), words[at].upper()
     if fault := fault_of(sail):
         raise NoRuling(fault)
-    how = "".join(words[at + 1:]).lower() or USUAL.get(kind, "")
+    how = "".join(words[at + 1:]).translate(LOWERED) or USUAL.get(kind, "")
     ruling = Ruling(line, int(words[1]), sail, kind, how)
     if wrong := wrong_how(ruling):
         raise NoRuling(wrong)
@@ -132,7 +135,7 @@ def wrong_how(ruling: Ruling) -> Remark | None:
     """Why a kind can't take what is after it; None if it can."""
     (pattern, wanted), how = TAKES[ruling.kind], ruling.how
     if not re.fullmatch(pattern, how, re.ASCII):
-        return (remark("decision-takes-not", kind=ruling.kind, wanted=wanted, how=how) if how else
+        return (remark("decision-takes-not", kind=ruling.kind, wanted=wanted, how=Written(how)) if how else
                 remark("decision-takes", kind=ruling.kind, wanted=wanted))
     if how.endswith("%"):
         return None if 1 <= ruling.percent <= 100 else remark("decision-percent", how=how)

@@ -7,13 +7,13 @@ import datetime
 import functools
 import json
 import re
-import unicodedata
 import urllib.parse
 import zoneinfo
 from collections.abc import Sequence
 from dataclasses import dataclass, field
 
 from raceoffice import time_zones
+from raceoffice.characters import in_one_form, is_composed
 from raceoffice.decisions.points import Decided
 from raceoffice.program.journal import Race, Series
 from raceoffice.program.standing import Ranks, Row, Score, Standing, tie_break
@@ -153,10 +153,10 @@ class Snapshot:
 def labels_of(views: Sequence[Snapshot]) -> list[str]:
     """What each series is called: no two look alike, and no two headings with them. A series has its folder's name with it
     if another is called or headed the same, or would be with its own."""
-    labels, named = [view.label for view in views], set[int]()
+    labels, named, forms = [view.label for view in views], set[int](), dict[str, str]()
     while True:
         headings = [view.heading(label) for view, label in zip(views, labels)]
-        alike = (looking_alike(labels) | looking_alike(headings)) - named
+        alike = (looking_alike(labels, forms) | looking_alike(headings, forms)) - named
         if not alike:
             return labels
         for at in alike:
@@ -164,17 +164,20 @@ def labels_of(views: Sequence[Snapshot]) -> list[str]:
         named |= alike
 
 
-def looking_alike(texts: Sequence[str]) -> set[int]:
+def looking_alike(texts: Sequence[str], forms: dict[str, str]) -> set[int]:
     """The places of texts that look as another does: spaces in a row are one, as a browser shows them, and signs that
-    Unicode holds for the same are the same, as a letter with its mark and both in one sign."""
-    seen = [" ".join(unicodedata.normalize("NFKC", text).split()) for text in texts]
-    often = collections.Counter(seen)
-    return {at for at, text in enumerate(seen) if often[text] > 1}
+    Unicode holds for the same are the same, as a letter with its mark and both in one sign. `forms` has what was found of
+    texts before."""
+    for text in texts:
+        if text not in forms:
+            forms[text] = " ".join(in_one_form(text).split())
+    often = collections.Counter(forms[text] for text in texts)
+    return {at for at, text in enumerate(texts) if often[forms[text]] > 1}
 
 
 def folder_shown(name: str) -> str:
     """The name of a folder, or what stands for it in an address: no two look alike."""
-    return name if FOLDER.fullmatch(name) and unicodedata.is_normalized("NFKC", name) else urllib.parse.quote(name, safe="")
+    return name if FOLDER.fullmatch(name) and is_composed(name) else urllib.parse.quote(name, safe="")
 
 
 def told_apart(views: Sequence[Snapshot]) -> list[Snapshot]:

@@ -219,7 +219,7 @@ class ResultsSource:
 
     def changed_at(self, sheet: Sheet, standing: Standing, is_seen: bool) -> datetime.datetime:
         """When the results changed last, as far as the log and the files know. If a change is seen just
-        now that isn't in the log, it is now."""
+        now that isn't in the log, it is now. A file that is dated before 1970 is as of then: no page has an earlier moment."""
         logged, state = self.folder.logged(), self.settings.state
         entry = time_of_entry(logged, sheet.journal, last_scored(list(sheet.journal), standing.races))
         notice = time_of_notice(logged, state)
@@ -227,7 +227,7 @@ class ResultsSource:
         files = [] if entry or is_seen else [self.folder.journal]
         if state != "provisional" and not notice:
             files.append(self.folder.file(settings.NAME))
-        times += [datetime.datetime.fromtimestamp(int(os.path.getmtime(path)), datetime.timezone.utc)
+        times += [datetime.datetime.fromtimestamp(max(0, int(os.path.getmtime(path))), datetime.timezone.utc)
                   for path in files if os.path.exists(path)]
         if is_seen and not entry:
             times.append(now())

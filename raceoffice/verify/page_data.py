@@ -82,7 +82,7 @@ def found_in(page: str) -> Kept:
 
 
 def block_of(page: str) -> str:
-    """The text of the block."""
+    """The text of the block. Unsure if there is none, or if it is longer than what is read."""
     found = page.count(START)
     if found == 0 and START.replace("\n", "\r\n") in page:
         raise Unsure("its line ends were changed to CR LF on the way: save the page as the file that it is")
@@ -95,7 +95,7 @@ def block_of(page: str) -> str:
     if end < 0:
         raise ForeignPage("the block has no end")
     if end - begin > BLOCK:
-        raise ForeignPage(f"the block is longer than {BLOCK:,} characters, and that of no page is")
+        raise Unsure(f"its block is longer than {BLOCK:,} characters, and no more are read")
     return page[begin:end]
 
 

@@ -45,6 +45,8 @@ MESSAGE, LONGER = 400, 1 << 16
 BEWARES, SCORED = 5, 20
 # Seconds after which nothing more of a page is worked out. The program has its own for each run.
 PATIENCE = 300.0
+# The kinds of pages that have the overall tables of their series, and the fewest characters that each score has there.
+WITH_TABLES, CELL = ("top", "overall", "results"), 50
 VERIFIED, DIFFERS, UNSURE = 0, 1, 2
 
 
@@ -66,21 +68,31 @@ class Verifier:
         self.last: Rebuilt | None = None
         self.end = 0.0
 
-    def rebuilt(self, kept: Kept) -> Rebuilt:
-        """The page that raceoffice writes of what a page carries."""
+    def rebuilt(self, kept: Kept, length: int = LARGEST) -> Rebuilt:
+        """The page that raceoffice writes of what a page carries that has so many characters."""
+        self.end = self.now() + PATIENCE
         if self.last is None or self.last.kept != kept:
-            self.end = self.now() + PATIENCE
-            views = tuple(self.view(carried, kept.kind == "results") for carried in kept.series)
-            made = Rebuilt(kept, views, page_of(kept, views))
+            views = self.all_views(kept, length)
+            made = Rebuilt(kept, views, page_of(kept, views, self.need_time))
             self.need_time()
-            compare_tables(made)
+            compare_tables(made, self.need_time)
             self.last = made
         return self.last
 
     def need_time(self) -> None:
         """Unsure if a page takes too long."""
         if self.now() > self.end:
-            raise Unsure(f"its series take longer than {PATIENCE:g} seconds to score")
+            raise Unsure(f"it takes longer than {PATIENCE:g} seconds to score and to compare")
+
+    def all_views(self, kept: Kept, length: int) -> tuple[Snapshot, ...]:
+        """The series of a page. ForeignPage if their tables are longer than the page."""
+        views, cells = list[Snapshot](), 0
+        for carried in kept.series:
+            views.append(self.view(carried, kept.kind == "results"))
+            cells += len(views[-1].standing.rows) * len(views[-1].standing.races)
+            if kept.kind in WITH_TABLES and cells * CELL > length:
+                raise ForeignPage("it is shorter than the tables of its series are")
+        return tuple(views)
 
     def view(self, carried: Carried, with_course: bool) -> Snapshot:
         """A series as the program scores it."""
@@ -147,12 +159,12 @@ class Verifier:
     def verified(self, text: str) -> Rebuilt:
         """A page that is the one which its results give. ForeignPage says what differs first, and Unsure or
         Trouble why nothing can be said."""
-        rebuilt = self.rebuilt(found_in(text))
+        rebuilt = self.rebuilt(found_in(text), len(text))
         confirmed = CONFIRMED.match(text)
         checked, office = confirmed.groups() if confirmed else ("", "")
         wanted = page.confirmed(rebuilt.text, checked, office)
         if text != wanted:
-            raise ForeignPage(first_difference(text, wanted))
+            raise ForeignPage(first_difference(text, wanted, self.need_time))
         if wrong := wrong_confirmation(rebuilt.kept, checked, office):
             raise ForeignPage(wrong)
         # An honest page, too, may have been made while a clock was wrong.
@@ -175,12 +187,12 @@ def refused(trouble: str, journal: list[str]) -> str:
     return f"entry {at} of the journal {why}: {quoted((journal + [''] * at)[at - 1])}"
 
 
-def page_of(kept: Kept, views: Sequence[Snapshot]) -> str:
-    """The page that raceoffice writes of these series."""
+def page_of(kept: Kept, views: Sequence[Snapshot], ask: Callable[[], None]) -> str:
+    """The page that raceoffice writes of these series. Meanwhile `ask` is called again and again."""
     if kept.kind == "list":
         return listing(views)
     if kept.kind == "results":
-        return results(views)
+        return results(views, ask)
     if kept.kind != "race":
         return overall(views[0], kept.is_among, kept.kind == "top")
     if kept.race not in views[0].race_pages:
@@ -188,14 +200,15 @@ def page_of(kept: Kept, views: Sequence[Snapshot]) -> str:
     return one_race(views[0], kept.race, kept.is_among)
 
 
-def compare_tables(rebuilt: Rebuilt) -> None:
+def compare_tables(rebuilt: Rebuilt, ask: Callable[[], None]) -> None:
     """Compares the overall tables that raceoffice writes with the program's, cell by cell."""
-    tables = [table for table in Seen(rebuilt.text).tables
+    tables = [table for table in Seen(rebuilt.text, ask).tables
               if table.caption.startswith("Overall results, ")]
-    wanted = told_apart(rebuilt.views) if rebuilt.kept.kind in ("top", "overall", "results") else []
+    wanted = told_apart(rebuilt.views) if rebuilt.kept.kind in WITH_TABLES else []
     if len(tables) != len(wanted):
         raise ForeignPage(f"the page has {count(len(tables), 'overall table')}, and not {len(wanted)}")
     for table, view in zip(tables, wanted):
+        ask()
         boats = [(" ".join(f"{boat.sail} {boat.helm or boat.name}".split()), row.sail)
                  for row in view.standing.rows for boat in [view.boat(row.sail)]]
         try:
@@ -211,14 +224,14 @@ def compare_tables(rebuilt: Rebuilt) -> None:
             raise ForeignPage(f"{place(table, at + 1, 0)}: the row isn't the program's")
 
 
-def first_difference(text: str, wanted: str) -> str:
+def first_difference(text: str, wanted: str, ask: Callable[[], None]) -> str:
     """Where a page first differs from what it has to be: a cell, a text, or else a line of its file."""
     ours, others = text[:len(wanted) + LONGER].split("\n"), wanted.split("\n")
     at = first_of(ours, others) or 0
     line = f"line {at + 1} of the file isn't as raceoffice writes it: {quoted(part(ours, at))}"
     if len(text) > len(wanted) + LONGER:
         return f"the page is longer than the right one, and {line}"
-    return difference(Seen(text), Seen(wanted)) or (
+    return difference(Seen(text, ask), Seen(wanted, ask)) or (
         f"no cell or text that differs was found, but {line}. A browser may show something else")
 
 
@@ -241,7 +254,7 @@ def value_of(rebuilt: Rebuilt, program: str) -> dict[str, object]:
 def classes_named(rebuilt: Rebuilt) -> list[str]:
     """How each class is named: by its place on the page, too, if what is shown of its name looks as that of another does."""
     shown = [as_put_out(quoted(label)) for label in labels_of(rebuilt.views)]
-    alike = looking_alike(shown)
+    alike = looking_alike(shown, {})
     return [f"Class {at + 1} of the page, {name}" if at in alike else f"Class {name}" for at, name in enumerate(shown)]
 
 
@@ -302,7 +315,7 @@ def text_of_page(path: str) -> str:
         raise Unsure(f"it can't be read: {cause.strerror}") from None
     if len(data) > LARGEST:
         need_block(data)
-        raise ForeignPage(f"it is longer than {LARGEST:,} bytes, and no page is")
+        raise Unsure(f"it is longer than {LARGEST:,} bytes, and no more are read")
     try:
         return data.decode("utf-8")
     except UnicodeDecodeError as cause:

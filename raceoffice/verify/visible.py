@@ -4,7 +4,7 @@ from __future__ import annotations
 import html
 import os
 import re
-from collections.abc import Iterator
+from collections.abc import Callable, Iterator
 from dataclasses import dataclass, field
 
 from raceoffice.characters import QUOTED, quoted
@@ -28,6 +28,8 @@ LONG = re.compile("&#[xX]?[0-9a-fA-F]{8}")
 HEAD = re.compile("[A-Z][A-Za-z0-9]{0,9}")
 # Signs before those in which two texts differ.
 BEFORE = 20
+# After as many texts and tags of a page it is asked whether to go on.
+OFTEN = 10_000
 # Parts inside one another, and signs of a cell to which more are added. The package's pages have fewer.
 DEEPEST, LONGEST = 40, 10_000
 
@@ -69,9 +71,10 @@ class Table:
 
 
 class Seen:
-    """A page, taken apart into its tables and its other texts."""
+    """A page, taken apart into its tables and its other texts. Meanwhile `ask` is called again and again, which may end it by
+    what it raises."""
 
-    def __init__(self, page: str) -> None:
+    def __init__(self, page: str, ask: Callable[[], None] = lambda: None) -> None:
         self.tables: list[Table] = []
         self.texts: list[tuple[str, str]] = []
         self.open: list[str] = []
@@ -79,14 +82,20 @@ class Seen:
         self.pieces: list[str] = []
         own = sum(page.count(reference) for reference, _ in OWN) + page.count(AND)
         self.has_many = page.count("&") - own > MANY
-        for kind, text in tokens(page):
-            if kind == "text":
-                self.text(text)
-            elif text.startswith("/"):
-                self.close(text[1:].strip().lower())
-            else:
-                self.begin(text)
+        for at, (kind, text) in enumerate(tokens(page)):
+            if at % OFTEN == 0:
+                ask()
+            self.take(kind, text)
         self.end_text()
+
+    def take(self, kind: str, text: str) -> None:
+        """A text or a tag."""
+        if kind == "text":
+            self.text(text)
+        elif text.startswith("/"):
+            self.close(text[1:].strip().lower())
+        else:
+            self.begin(text)
 
     def begin(self, text: str) -> None:
         """The beginning of a part."""

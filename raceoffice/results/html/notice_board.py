@@ -3,7 +3,7 @@ never out of date, since it says up to which entry of the journal it is."""
 from __future__ import annotations
 
 import dataclasses
-from collections.abc import Sequence
+from collections.abc import Callable, Iterator, Sequence
 
 from raceoffice.results.html import overall
 from raceoffice.results.html.chart import chart
@@ -54,12 +54,19 @@ def title_of(views: Sequence[Snapshot]) -> str:
     return f"{name} · {' and '.join(states)}"
 
 
-def results(views: Sequence[Snapshot]) -> str:
-    """The page of all classes."""
+def sections(views: Sequence[Snapshot], ask: Callable[[], None]) -> Iterator[Markup]:
+    """The classes, before each of which `ask` is called."""
+    for at, view in enumerate(views):
+        ask()
+        yield section(view, at)
+
+
+def results(views: Sequence[Snapshot], ask: Callable[[], None] = lambda: None) -> str:
+    """The page of all classes. Before each `ask` is called, which may end it by what it raises."""
     found = placed(views)
     body = tag("main", separated([
         "", together(ways(found), tag("div", finder(overall.more_names(found[0])), class_="bar")),
-        *(section(view, at) for at, view in enumerate(found)), block("results", views), ""], "\n"),
+        *sections(found, ask), block("results", views), ""], "\n"),
         class_="results")
     return framed(title_of(found), "no", found[0].settings.every, "-".join(map(version_of, views)), "",
                   body, style(found), f"{found[0].ids}table")
