@@ -413,7 +413,9 @@ class Heads(unittest.TestCase):
         office = WebOffice(gate, "/none", "http://127.0.0.1/", print)
         routes = Routes(office)
         for line, field in (("/office" + "/%41" * 15, ""), ("/" + "%41" * 650, ""), ("/" + " " * 2000, ""), ("/live?page=" + "/%41" * 500, ""),
-                            ("/office/finish/me", "Cookie: " + ";" * 15_000), ("/", "Accept-Encoding: " + "," * 15_000),
+                            ("/office/finish/me", "Cookie: " + ";" * 15_000),
+                            ("/office/finish/me", "Cookie: " + f"office-finish={'A' * 43};" * 270), ("/office/finish/me", "Cookie: " + "office-finish" * 1200),
+                            ("/", "Accept-Encoding: " + "," * 15_000),
                             ("/", "\r\n".join(f"f{at}: {'x' * 100}" for at in range(97)))):
             head = f"GET {line} HTTP/1.1\r\nHost: 127.0.0.1\r\n{field}\r\n\r\n".encode()
             self.assertLess(len(head), HEAD)

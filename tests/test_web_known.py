@@ -148,6 +148,25 @@ class Cookies(unittest.TestCase):
         self.assertEqual(again.partition("=")[0], first.partition("=")[0])
         self.assertEqual((self.knows(first)[0], self.knows(again)[0]), (False, True))
 
+    def test_many_links(self) -> None:
+        """A phone that is put out and comes by a new link, again and again, has one cookie of that office, beside 200 of an
+        older package and those of another office of its computer and of a copy, where it stays, too."""
+        self.come(self.gates[0])
+        shutil.copy(self.gates[0].path, path := os.path.join(self.holder, "copy.json"))
+        others = [self.gates[1], Gate(path)]
+        # A browser has them earliest first.
+        jar = {f"office-finish-{number:08x}": "A" * 43 for number in range(200)}
+        jar |= dict(self.come(gate).split("=") for gate in others)
+        for number in range(20):
+            # The web is started again each time.
+            gate = Gate(self.gates[0].path)
+            request = Request("POST", "/", {"cookie": "; ".join(map("=".join, jar.items()))}, "127.0.0.1")
+            cookie, called = gate.enter(request, "FINISH", gate.new_key("FINISH"), "Ann")
+            jar |= dict([cookie.partition(";")[0].split("=")])
+            held = Request("GET", "/", {"cookie": "; ".join(map("=".join, jar.items()))}, "127.0.0.1")
+            self.assertEqual((len(jar), [one.known(held, "FINISH") is not None for one in (gate, *others)]), (203, [True] * 3), number)
+            self.assertEqual(called, "Ann (2)")
+
     def test_put_out(self) -> None:
         """Two phones of one usual name are put out, and come in again by a new link in the other order: each has the name
         that it had, by which its taps are known. Another phone has neither, nor has one of theirs that is called otherwise."""
