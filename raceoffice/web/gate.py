@@ -264,13 +264,18 @@ class Gate:
         """The device that a request comes from; 401 if it isn't one of this role."""
         device = self.known(request, role)
         if device is None:
-            raise Wrong(401, "this device isn't known here: open the link of your role again")
+            raise unknown()
         device.heard, device.address = self.clock.now(), request.address
         unsent = request.fields.get("x-unsent", "")
         if unsent.isascii() and unsent.isdecimal():
             device.unsent = min(int(unsent[:6]), 9999)
         self.is_heard = True
         return device
+
+    def need(self, device: Device) -> None:
+        """401 if a device has been put out, as while its request waited."""
+        if not self.lets_in(device.mark):
+            raise unknown()
 
     def holding(self, but: str = "") -> list[str]:
         """The devices that said they hold taps which the office hasn't got, each with how many, as `Ann (2)`; without
@@ -324,6 +329,10 @@ class Gate:
             raise Wrong(403, "the page is out of date: load it again", "page-out-of-date")
         self.writing.take(device.mark)
         return device
+
+
+def unknown() -> Wrong:
+    return Wrong(401, "this device isn't known here: open the link of your role again")
 
 
 def cookies_of(request: Request, role: str) -> list[tuple[str, str, str]]:

@@ -10,7 +10,7 @@ import os
 import re
 import secrets
 import time
-from collections.abc import Callable
+from collections.abc import Callable, Iterator
 from typing import Any
 
 from raceoffice.errors import NotNow, NotSent, Trouble
@@ -278,7 +278,15 @@ class Routes:
 
     # What is written
 
+    @contextlib.contextmanager
+    def turn(self, room: Room, device: Device) -> Iterator[None]:
+        """While a device changes a class; 401 if it was put out before it had its turn."""
+        with room.lock:
+            self.gate.need(device)
+            yield
+
     def write(self, request: Request, role: str, device: Device, rest: list[str]) -> Reply:
+        self.gate.need(device)
         match rest:
             case ["line", name]:
                 return self.line(request, role, device, self.room(name))
@@ -324,7 +332,7 @@ class Routes:
             case ["rules", name]:
                 return self.rules_effect(request, self.room(name))
             case ["sheet", name]:
-                return self.save_sheet(request, self.room(name))
+                return self.save_sheet(request, device, self.room(name))
             case ["second", name]:
                 return self.choose_second(request, device, self.one(name))
             case ["save", name]:
@@ -353,7 +361,7 @@ class Routes:
             self.gate.refused.check(device.mark)
             ask_of_series(room, tap)
             ask_of_unsent(room, tap, self.gate.holding(device.mark))
-        done = room.do(role, device.name, tap)
+        done = room.do(role, device.name, tap, lambda: self.gate.need(device))
         if is_idle(done):
             self.gate.refused.pause(device.mark)
         return reply_of(done | {"version": room.version, "now": now()})
@@ -378,24 +386,24 @@ class Routes:
         """What a decision comes to, or taking one out, and whom it moves."""
         return reply_of(rulings.ruling_shown(room, request.values()))
 
-    @staticmethod
-    def decide(request: Request, device: Device, room: Room) -> Reply:
+    def decide(self, request: Request, device: Device, room: Room) -> Reply:
         """Keeps a decision in decisions.txt, or takes it out, and sends the lines that it takes. The same again gets
         the same answer."""
-        done = rulings.decide(room, request.values(), device.name)
+        with self.turn(room, device):
+            done = rulings.decide(room, request.values(), device.name)
         return reply_of({"outcome": "taken", "done": done, "version": room.version})
 
-    @staticmethod
-    def correct(request: Request, device: Device, room: Room) -> Reply:
+    def correct(self, request: Request, device: Device, room: Room) -> Reply:
         """Sends the lines of a correction, asks of them alone, or leaves what is left of one."""
         values = request.values()
-        if values.get("ask") is True:
-            corrections.ask_whole(room, values, device.name)
-            return reply_of({"outcome": "asked", "version": room.version})
-        if values.get("leave") is True:
-            corrections.leave_rest(room, values)
-            return reply_of({"outcome": "left", "version": room.version})
-        found = corrections.correct(room, values, device.name)
+        with self.turn(room, device):
+            if values.get("ask") is True:
+                corrections.ask_whole(room, values, device.name)
+                return reply_of({"outcome": "asked", "version": room.version})
+            if values.get("leave") is True:
+                corrections.leave_rest(room, values)
+                return reply_of({"outcome": "left", "version": room.version})
+            found = corrections.correct(room, values, device.name)
         found["version"] = room.version
         return reply_of(found)
 
@@ -444,10 +452,9 @@ class Routes:
         """Which of the names of a boat the entry list has columns for."""
         return reply_of(boat_names.list_shown(room.folder))
 
-    @staticmethod
-    def name_boat(request: Request, device: Device, room: Room) -> Reply:
+    def name_boat(self, request: Request, device: Device, room: Room) -> Reply:
         """Puts the names of a boat that is entered into the entry list."""
-        with room.lock:
+        with self.turn(room, device):
             session = room.session("SCORER")
             session.look()
             is_another = boat_names.name_boat(room.folder, room.facts, request.values(), device.name)
@@ -470,10 +477,9 @@ class Routes:
         """The sheet of times of a race."""
         return reply_of(times_sheet.sheet_shown(room.folder, room.facts, race))
 
-    @staticmethod
-    def save_sheet(request: Request, room: Room) -> Reply:
+    def save_sheet(self, request: Request, device: Device, room: Room) -> Reply:
         """Changes the sheet of times of a race. The tap TIMES sends the lines that follow from it."""
-        with room.lock:
+        with self.turn(room, device):
             found = times_sheet.save_sheet(room.folder, room.facts, request.values())
         room.news()
         return reply_of(found)
@@ -485,15 +491,14 @@ class Routes:
 
     def save(self, request: Request, device: Device, room: Room) -> Reply:
         """Saves settings, if they are still as they were shown."""
-        with room.lock:
+        with self.turn(room, device):
             series_settings.save(room.folder, room.facts, request.values(), device.name)
         room.news()
         return self.rules(room)
 
-    @staticmethod
-    def choose_second(request: Request, device: Device, one: Class) -> Reply:
+    def choose_second(self, request: Request, device: Device, one: Class) -> Reply:
         """Makes a stick the second folder of a class, or none."""
-        with one.room.lock:
+        with self.turn(one.room, device):
             sticks.choose(one.room.folder, one.office, request.values(), device.name)
         one.results.copies.look_again()
         return reply_of(one.results.shown())
@@ -501,7 +506,8 @@ class Routes:
     def declare(self, request: Request, device: Device, one: Class) -> Reply:
         """Declares the results provisional, final or amended, or says what is asked before."""
         try:
-            return reply_of(one.results.declare(device.name, request.values()))
+            with self.turn(one.room, device):
+                return reply_of(one.results.declare(device.name, request.values()))
         except Unasked as asked:
             return reply_of(asked.values, 409)
 
