@@ -4,20 +4,25 @@ from __future__ import annotations
 import asyncio
 import contextlib
 import io
+import json
 import logging
 import socket
 import ssl
 import threading
 import unittest
+from collections.abc import Callable
 from unittest import mock
 
 import helpers
 from raceoffice.results.http_answers import Board
-from raceoffice.web.gate import DEVICES, QUIET, Gate, plain_name
+from raceoffice.web import workers
+from raceoffice.web.gate import DEVICES, QUIET, ROLES, Device, Gate, plain_name
 from raceoffice.web.hosting import PIECE, Host
 from raceoffice.web.page_news import PageNews
 from raceoffice.web.rates import Rate
 from raceoffice.web.requests import Reply, Request, Wrong
+from raceoffice.web.routes import Routes
+from raceoffice.web.web_office import WebOffice
 from web_devices import Web
 
 GET = b"GET / HTTP/1.1\r\n\r\n"
@@ -276,6 +281,85 @@ class Links(unittest.TestCase):
         self.assertEqual((tried[0], tried[-1]), (403, 429))
         self.keys["FINISH"] = key
         self.come()
+
+
+class Roles(unittest.IsolatedAsyncioTestCase):
+    """What the devices of a role ask for, as many as came by one link, and nothing of it is done for a while."""
+
+    async def asyncSetUp(self) -> None:
+        self.gate, self.begun, self.go_on = Gate(""), list[str](), threading.Event()
+        self.gate.coming = Rate(1000, 0)
+        self.routes = Routes(WebOffice(self.gate, "/none", "http://127.0.0.1/", lambda text: None))
+        self.keys = {role: self.gate.new_key(role) for role in ROLES}
+        self.asked = list[asyncio.Task[object]]()
+        writing = mock.patch.object(self.routes, "write", self.write)
+        writing.start()
+        self.addCleanup(writing.stop)
+        self.addCleanup(self.go_on.set)
+
+    def write(self, request: Request, role: str, device: Device, rest: list[str]) -> Reply:
+        """Writes what a device of the finish asks for, once all may go on."""
+        self.begun.append(device.name)
+        if role == "FINISH":
+            self.go_on.wait(helpers.PATIENCE)
+        return Reply()
+
+    def come(self, role: str, name: str) -> str:
+        """The cookie of a device that comes."""
+        return self.gate.enter(Request("POST", "/", {}, "127.0.0.1"), role, self.keys[role], name)[0].partition(";")[0]
+
+    def ask(self, role: str, cookie: str) -> asyncio.Task[object]:
+        """A request that writes."""
+        fields = {"cookie": cookie, "host": "127.0.0.1", "origin": "http://127.0.0.1"}
+        fields["x-token"] = self.gate.token(Request("POST", "/", fields, ""), role)
+        answer = self.routes.answer(Request("POST", f"/office/{role.lower()}/line/cup", fields, "127.0.0.1"))
+        self.asked.append(asyncio.get_running_loop().create_task(answer))
+        return self.asked[-1]
+
+    async def until(self, what: str, holds: Callable[[], object]) -> None:
+        """Waits until something holds."""
+        for _ in range(int(helpers.PATIENCE * 100)):
+            if holds():
+                return
+            await asyncio.sleep(0.01)
+        self.fail(f"{what} didn't come about")
+
+    async def test_other_roles(self) -> None:
+        """Other roles don't wait, nor does whoever comes by a link."""
+        for number in range(30):
+            cookie = self.come("FINISH", f"Eve {number}")
+            for _ in range(4):
+                self.ask("FINISH", cookie)
+        await self.until("the first", lambda: self.begun)
+        for role in ("SCORER", "JURY"):
+            answer = self.ask(role, self.come(role, role))
+            await self.until(role, answer.done)
+        body = json.dumps({"role": "FINISH", "key": self.keys["FINISH"], "name": "Ann"}).encode()
+        fields = {"host": "127.0.0.1", "origin": "http://127.0.0.1", "content-type": "application/json"}
+        reply = asyncio.create_task(self.routes.answer(Request("POST", "/office/in", fields, "127.0.0.1", body)))
+        self.asked.append(reply)
+        await self.until("whoever comes", reply.done)
+        self.go_on.set()
+        await asyncio.gather(*self.asked)
+        self.assertEqual(len(self.begun), 122)
+
+    async def test_one_device(self) -> None:
+        """Of one device a few requests are begun, and the rest after them, also if some were given up meanwhile; another
+        device doesn't wait for them. Nothing is known any more of a device once all is done."""
+        eve, ann = self.come("FINISH", "Eve"), self.come("FINISH", "Ann")
+        asked = [self.ask("FINISH", eve) for _ in range(50)]
+        await self.until("some of Eve's", lambda: len(self.begun) == workers.AT_ONCE)
+        self.ask("FINISH", ann)
+        await self.until("Ann's", lambda: "Ann" in self.begun)
+        for answer in (*asked[:2], *asked[20:30]):
+            answer.cancel()
+        await asyncio.gather(*asked[:2], *asked[20:30], return_exceptions=True)
+        # Those whose connections were given up have their threads still.
+        self.assertEqual(self.begun, ["Eve"] * workers.AT_ONCE + ["Ann"])
+        self.go_on.set()
+        await asyncio.gather(*self.asked, return_exceptions=True)
+        self.assertEqual(self.begun.count("Eve"), 40)
+        await self.until("the end", lambda: not self.routes.workers.turns)
 
 
 class Waiting(Web):

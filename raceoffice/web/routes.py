@@ -1,8 +1,6 @@
 """What each address of the office does, for which role."""
 from __future__ import annotations
 
-import asyncio
-import concurrent.futures
 import contextlib
 import functools
 import json
@@ -40,6 +38,7 @@ from raceoffice.web.tap_session import Asked
 from raceoffice.web.taps import LATEST, NoTap, Tap, agreed_in
 from raceoffice.web.timed_taps import races_waiting
 from raceoffice.web.web_office import Class, WebOffice
+from raceoffice.web.workers import Workers
 
 STATIC = os.path.join(os.path.dirname(os.path.abspath(__file__)), "static")
 KINDS = {".html": "text/html", ".js": "text/javascript", ".css": "text/css", ".svg": "image/svg+xml",
@@ -47,7 +46,6 @@ KINDS = {".html": "text/html", ".js": "text/javascript", ".css": "text/css", ".s
 PAGES = {role.lower(): f"{role.lower()}.html" for role in ROLES}
 # The most bytes of a body: of somebody whom nobody knows, of a device, and of one that sends a list.
 FOR_ALL, FOR_DEVICES, FOR_LISTS = 4 << 10, 256 << 10, 5 << 20
-WORKERS = 24
 # What a line of each role may begin with beside the lines that it sends.
 OWN = {"UNDO", "ABANDON"}
 
@@ -68,7 +66,7 @@ class Routes:
 
     def __init__(self, office: WebOffice) -> None:
         self.office, self.gate = office, office.gate
-        self.pool = concurrent.futures.ThreadPoolExecutor(WORKERS)
+        self.workers = Workers()
         self.files = static_files()
         self.states: dict[tuple[str, bool], tuple[int, bytes]] = {}
 
@@ -102,17 +100,17 @@ class Routes:
             case [] | ["in"] if is_reading:
                 return tagged(request, *self.file("enter.html"))
             case ["in"]:
-                return await self.in_thread(self.enter, request)
+                return await self.in_thread("", request.address, self.enter, request)
             case [role, "in"] if role in PAGES and not is_reading:
                 # A browser that comes again sends its cookie here.
-                return await self.in_thread(self.enter, request)
+                return await self.in_thread("", request.address, self.enter, request)
             case ["static", *names] if is_reading:
                 return self.part("/".join(names), request)
             case [role, *rest] if role in PAGES and is_reading:
                 return await self.read(request, role.upper(), rest)
             case [role, *rest] if role in PAGES:
                 device = self.gate.check_write(request, role.upper())
-                return await self.in_thread(self.write, request, role.upper(), device, rest)
+                return await self.in_thread(device.role, device.mark, self.write, request, device.role, device, rest)
         raise Wrong(404)
 
     def file(self, name: str) -> tuple[str, bytes]:
@@ -160,10 +158,10 @@ class Routes:
         self.office.tell(f"{role.lower()}: {name} came from {request.address}")
         return reply_of({"next": f"/office/{role.lower()}/", "name": name}, 200, {"Set-Cookie": cookie})
 
-    async def in_thread(self, work: Callable[..., Reply], *values: object) -> Reply:
-        """Does what may take time, and says in words what keeps it from being done."""
+    async def in_thread(self, role: str, name: str, work: Callable[..., Reply], *values: object) -> Reply:
+        """Does what may take time for a device of a role, and says in words what keeps it from being done."""
         try:
-            return await asyncio.get_running_loop().run_in_executor(self.pool, self.guarded, work, *values)
+            return await self.workers.done(role, name, functools.partial(self.guarded, work, *values))
         except NotNow as why:
             # The device keeps the tap, and its place among those that wait.
             raise Wrong(503, sentence(why), "waits", said=remarks_of(why.said)) from None
@@ -193,6 +191,7 @@ class Routes:
             return tagged(request, *self.file("worker.js"))
         device = self.gate.device(request, role)
         self.gate.asking.take(device.mark)
+        in_thread = functools.partial(self.in_thread, role, device.mark)
         match rest:
             case ["me"]:
                 self.need_a_class()
@@ -200,21 +199,21 @@ class Routes:
             case ["live"]:
                 return Waiting(functools.partial(self.office.news.serve, name=device.mark), device.mark)
             case ["state", name]:
-                return await self.in_thread(self.state, request, role, self.room(name))
+                return await in_thread(self.state, request, role, self.room(name))
             case ["rulings", name] if role == "JURY":
-                return await self.in_thread(self.rulings, self.room(name))
+                return await in_thread(self.rulings, self.room(name))
             case ["devices"] if role == "SCORER":
-                return await self.in_thread(self.devices, device)
+                return await in_thread(self.devices, device)
             case ["listed", name] if role == "SCORER":
-                return await self.in_thread(self.list_shown, self.room(name))
+                return await in_thread(self.list_shown, self.room(name))
             case ["rules", name] if role == "SCORER":
-                return await self.in_thread(self.rules, self.room(name))
+                return await in_thread(self.rules, self.room(name))
             case ["results", name] if role == "SCORER":
-                return await self.in_thread(self.results, self.one(name))
+                return await in_thread(self.results, self.one(name))
             case ["export", form, *names] if role == "SCORER" and len(names) < 2:
-                return await self.in_thread(self.export, form, [*map(self.one, names)])
+                return await in_thread(self.export, form, [*map(self.one, names)])
             case ["sheet", name, race] if role == "SCORER":
-                return await self.in_thread(self.sheet, self.room(name), race)
+                return await in_thread(self.sheet, self.room(name), race)
         raise Wrong(404)
 
     def me(self, request: Request, role: str, device: Device) -> Values:
