@@ -15,9 +15,9 @@ from unittest import mock
 
 import helpers
 from raceoffice.results.http_answers import Board
-from raceoffice.web import workers
+from raceoffice.web import hosting, workers
 from raceoffice.web.gate import DEVICES, QUIET, ROLES, Device, Gate, plain_name
-from raceoffice.web.hosting import PIECE, Host
+from raceoffice.web.hosting import PIECE, SILENT, STRANGER, Host
 from raceoffice.web.page_news import PageNews
 from raceoffice.web.rates import Rate
 from raceoffice.web.requests import Reply, Request, Wrong
@@ -93,40 +93,66 @@ class Connections(unittest.IsolatedAsyncioTestCase):
             await asyncio.sleep(0.1)
         self.assertLessEqual(writers[-1].transport.get_write_buffer_size(), 3 * PIECE)
 
+    async def come(self, text: bytes) -> asyncio.StreamReader:
+        """What comes over one more connection of an address that may have four."""
+        reader, writer = await asyncio.open_connection(*self.door, local_addr=("127.0.0.2", 0))
+        self.addCleanup(writer.transport.abort)
+        self.links.append(writer)
+        if text:
+            await self.ask(reader, writer, text)
+        await self.until(lambda: len(self.host.visits["127.0.0.2"]) == min(4, len(self.links)))
+        return reader
+
+    async def ask(self, reader: asyncio.StreamReader, writer: asyncio.StreamWriter, text: bytes) -> None:
+        writer.write(text)
+        self.assertTrue((await reader.readuntil(b"ok")).startswith(b"HTTP/1.1 200"))
+
+    async def room_for_four(self) -> None:
+        self.data, self.links = b"ok", list[asyncio.StreamWriter]()
+        await self.host.start(*self.door, None)
+        self.host.most_of_one = 4
+
+    @mock.patch.object(hosting, "YOUNG", 0.0)
     async def test_same_address(self) -> None:
         """An address has all the connections that it may have: one more comes in for the one that came first and has asked for
         nothing, else for a stranger's, and for that of a device last. A device stays one, whatever it asks for next."""
-        self.data = b"ok"
-        await self.host.start(*self.door, None)
-        self.host.most_of_one = 4
-        links: list[tuple[asyncio.StreamReader, asyncio.StreamWriter]] = []
-
-        async def ask(reader: asyncio.StreamReader, writer: asyncio.StreamWriter, text: bytes) -> None:
-            writer.write(text)
-            self.assertTrue((await reader.readuntil(b"ok")).startswith(b"HTTP/1.1 200"))
-
-        async def come(text: bytes) -> None:
-            reader, writer = await asyncio.open_connection(*self.door, local_addr=("127.0.0.2", 0))
-            self.addCleanup(writer.transport.abort)
-            links.append((reader, writer))
-            if text:
-                await ask(reader, writer, text)
-            await self.until(lambda: len(self.host.visits["127.0.0.2"]) == min(4, len(links)))
+        await self.room_for_four()
 
         def known() -> list[int]:
-            return [len(level) for level in self.host.visits["127.0.0.2"].known]
+            crowd = self.host.visits["127.0.0.2"]
+            silent, strangers = [len(crowd.held[who]) for who in (SILENT, STRANGER)]
+            return [silent, strangers, len(crowd) - silent - strangers]
 
         device = b"GET / HTTP/1.1\r\nCookie: Ann\r\n\r\n"
-        for text in (device, b"", GET, b""):
-            await come(text)
+        readers = [await self.come(text) for text in (device, b"", GET, b"")]
         self.assertEqual(known(), [2, 1, 1])
-        await ask(*links[0], GET)
+        await self.ask(readers[0], self.links[0], GET)
         for text, wanted in ((GET, [1, 2, 1]), (device, [0, 2, 2]), (device, [0, 1, 3]), (GET, [0, 1, 3])):
-            await come(text)
+            readers.append(await self.come(text))
             self.assertEqual(known(), wanted)
         # Those that were given up have ended, in this order.
-        self.assertEqual([await links[at][0].read() for at in (1, 3, 2, 4)], [b""] * 4)
+        self.assertEqual([await readers[at].read() for at in (1, 3, 2, 4)], [b""] * 4)
         await self.until(lambda: (self.host.open, self.host.ending) == (4, 0))
+
+    @mock.patch.object(hosting, "YOUNG", helpers.PATIENCE)
+    async def test_young(self) -> None:
+        """A connection that has only just come, and so has asked for nothing, stays as long as strangers have some that rest:
+        these go, the first one first, and after them the young ones."""
+        await self.room_for_four()
+        readers = [await self.come(text) for text in (GET, b"", GET, b"", b"", b"")]
+        await self.until(lambda: [at for at, reader in enumerate(readers) if reader.at_eof()] == [0, 2])
+        readers += [await self.come(b""), await self.come(b"")]
+        await self.until(lambda: [reader.at_eof() for reader in readers] == [True] * 4 + [False] * 4)
+        await self.ask(readers[4], self.links[4], GET)
+
+    async def test_most_of_a_device(self) -> None:
+        """Where devices have all connections of an address, the one that has most gives its first one up: another keeps its
+        own, however long ago they came."""
+        await self.room_for_four()
+        ann, eve = (f"GET / HTTP/1.1\r\nCookie: {name}\r\n\r\n".encode() for name in ("Ann", "Eve"))
+        readers = [await self.come(text) for text in (ann, eve, eve, eve, eve, eve)]
+        await self.until(lambda: [at for at, reader in enumerate(readers) if reader.at_eof()] == [1, 2])
+        await self.ask(readers[0], self.links[0], ann)
 
     async def test_given_up_at_its_end(self) -> None:
         """A connection that is given up while it ends has left its socket: the next one that has its number is heard."""
