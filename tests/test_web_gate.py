@@ -107,6 +107,8 @@ class Attacks(unittest.TestCase):
         self.assertEqual(self.status(self.finish, method="GET"), 404)
         self.assertEqual(self.status(self.finish, method="PUT", body=self.tap), 405)
         self.assertEqual(self.status(self.finish, "/", self.tap), 405)
+        for path in ("/live?page=/cup/", "/office/finish/live"):
+            self.assertEqual(self.status(self.finish, path, method="HEAD"), 405, path)
 
     def test_odd_taps(self) -> None:
         """What is no tap is answered so, and nothing of it is sent."""
@@ -195,6 +197,14 @@ class Attacks(unittest.TestCase):
         mine = [line for line in logged if line[5:6] == [self.line]]
         self.assertEqual([line[2] for line in mine], ["Eve2026Forged line"])
         self.assertEqual({len(line) for line in logged}, {7})
+
+    def test_time(self) -> None:
+        """The terminal says with the time who came, whatever that one is called."""
+        name = "12:44:24 Closed."
+        self.device("finish", name)
+        helpers.until("who came", lambda: f"{name} came from" in self.web.said())
+        line = next(line for line in self.web.said().splitlines() if f"{name} came from" in line)
+        self.assertRegex(line, f"^[0-9:]{{8}} finish: {name} came from {self.source}$")
 
     def test_names(self) -> None:
         """A name is that of one device, whatever its role; one that comes again by its link keeps its own."""

@@ -356,6 +356,8 @@ class Host:
             reply = await self.answer(request)
         except Wrong as wrong:
             reply = wrong.reply()
+        if isinstance(reply, Waiting) and request.method == "HEAD":
+            reply = Wrong(405).reply()
         if isinstance(reply, Waiting):
             await self.send_news(reader, writer, reply, address)
             return False
