@@ -17,7 +17,7 @@ import helpers
 from raceoffice.results.http_answers import Board
 from raceoffice.web import hosting, workers
 from raceoffice.web.gate import DEVICES, QUIET, ROLES, Device, Gate, plain_name
-from raceoffice.web.hosting import PIECE, SILENT, STRANGER, Host
+from raceoffice.web.hosting import PIECE, Host
 from raceoffice.web.page_news import PageNews
 from raceoffice.web.rates import Rate
 from raceoffice.web.requests import Reply, Request, Wrong
@@ -120,8 +120,7 @@ class Connections(unittest.IsolatedAsyncioTestCase):
 
         def known() -> list[int]:
             crowd = self.host.visits["127.0.0.2"]
-            silent, strangers = [len(crowd.held[who]) for who in (SILENT, STRANGER)]
-            return [silent, strangers, len(crowd) - silent - strangers]
+            return [len(crowd.silent), len(crowd.strangers), sum(map(len, crowd.devices.values()))]
 
         device = b"GET / HTTP/1.1\r\nCookie: Ann\r\n\r\n"
         readers = [await self.come(text) for text in (device, b"", GET, b"")]
@@ -153,6 +152,16 @@ class Connections(unittest.IsolatedAsyncioTestCase):
         readers = [await self.come(text) for text in (ann, eve, eve, eve, eve, eve)]
         await self.until(lambda: [at for at, reader in enumerate(readers) if reader.at_eof()] == [1, 2])
         await self.ask(readers[0], self.links[0], ann)
+
+    @mock.patch.object(hosting, "YOUNG", helpers.PATIENCE)
+    @mock.patch.object(hosting, "FEW", 2)
+    async def test_many_of_a_device(self) -> None:
+        """A device that has many gives one up before a connection that has only just come."""
+        await self.room_for_four()
+        ann, eve = (f"GET / HTTP/1.1\r\nCookie: {name}\r\n\r\n".encode() for name in ("Ann", "Eve"))
+        readers = [await self.come(text) for text in (b"", eve, eve, eve, b"", b"")]
+        await self.until(lambda: [at for at, reader in enumerate(readers) if reader.at_eof()] == [0, 1])
+        await self.ask(readers[4], self.links[4], ann)
 
     async def test_given_up_at_its_end(self) -> None:
         """A connection that is given up while it ends has left its socket: the next one that has its number is heard."""

@@ -47,8 +47,8 @@ WAITING, TOGETHER = 1024, 16
 # Seconds for a connection to end in order.
 MOMENT = 1.0
 # Who has a connection, if it isn't that of a device: one that has asked for nothing yet, or a stranger. Seconds for which the
-# first ones are young: a phone has asked by then.
-SILENT, STRANGER, YOUNG = "silent", "", 1.0
+# first ones are young: a phone has asked by then. So many the pages of a device may have.
+SILENT, STRANGER, YOUNG, FEW = "silent", "", 1.0, 32
 # It prints what clients do to connections, and a terminal that was stopped would hold up all of them.
 logging.getLogger("asyncio").addHandler(logging.NullHandler())
 logging.getLogger("asyncio").propagate = False
@@ -188,14 +188,21 @@ class Crowd:
 
     def __init__(self) -> None:
         self.who: dict[asyncio.Task[None], str] = {}
-        self.held: dict[str, dict[asyncio.Task[None], float]] = {SILENT: {}, STRANGER: {}}
+        self.silent, self.strangers = dict[asyncio.Task[None], float](), dict[asyncio.Task[None], float]()
+        self.devices: dict[str, dict[asyncio.Task[None], float]] = {}
 
     def __len__(self) -> int:
         return len(self.who)
 
+    def held(self, who: str) -> dict[asyncio.Task[None], float]:
+        """The connections that somebody has."""
+        if who in (SILENT, STRANGER):
+            return self.silent if who == SILENT else self.strangers
+        return self.devices.setdefault(who, {})
+
     def add(self, visit: asyncio.Task[None], who: str = SILENT) -> None:
         self.who[visit] = who
-        self.held.setdefault(who, {})[visit] = time.monotonic()
+        self.held(who)[visit] = time.monotonic()
 
     def learn(self, visit: asyncio.Task[None], who: str) -> None:
         """Notes who has one now: a stranger, or a device, which stays that one, whatever it asks for next."""
@@ -205,11 +212,13 @@ class Crowd:
             self.add(visit, who)
 
     def take_first(self) -> asyncio.Task[None]:
-        """The one that is given up first, which is no part of the crowd any more: the first silent one, or a stranger's if that
-        is young; and if there are neither, the first one of the device that has most."""
-        silent, strangers = self.held[SILENT], self.held[STRANGER]
-        is_silent = bool(silent) and time.monotonic() - next(iter(silent.values())) >= YOUNG
-        found = strangers if strangers and not is_silent else silent or max(self.held.values(), key=len)
+        """The one that is given up first, which is no part of the crowd any more: the first silent one if that isn't young,
+        else a stranger's, else one of the device that has most, if it has many or nobody is silent."""
+        is_old = bool(self.silent) and time.monotonic() - next(iter(self.silent.values())) >= YOUNG
+        found = self.silent if is_old else self.strangers
+        if not found:
+            most = max(self.devices.values(), key=len, default=self.silent)
+            found = most if len(most) > FEW or not self.silent else self.silent
         visit = next(iter(found))
         self.is_removed(visit)
         return visit
@@ -219,9 +228,9 @@ class Crowd:
         who = self.who.pop(visit, None)
         if who is None:
             return False
-        del self.held[who][visit]
-        if not self.held[who] and who not in (SILENT, STRANGER):
-            del self.held[who]
+        del self.held(who)[visit]
+        if not self.held(who):
+            self.devices.pop(who, None)
         return True
 
 
