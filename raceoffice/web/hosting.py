@@ -194,7 +194,7 @@ class Crowd:
     def __len__(self) -> int:
         return len(self.who)
 
-    def held(self, who: str) -> dict[asyncio.Task[None], float]:
+    def connections_of(self, who: str) -> dict[asyncio.Task[None], float]:
         """The connections that somebody has."""
         if who in (SILENT, STRANGER):
             return self.silent if who == SILENT else self.strangers
@@ -202,7 +202,7 @@ class Crowd:
 
     def add(self, visit: asyncio.Task[None], who: str = SILENT) -> None:
         self.who[visit] = who
-        self.held(who)[visit] = time.monotonic()
+        self.connections_of(who)[visit] = time.monotonic()
 
     def learn(self, visit: asyncio.Task[None], who: str) -> None:
         """Notes who has one now: a stranger, or a device, which stays that one, whatever it asks for next."""
@@ -228,8 +228,8 @@ class Crowd:
         who = self.who.pop(visit, None)
         if who is None:
             return False
-        del self.held(who)[visit]
-        if not self.held(who):
+        del self.connections_of(who)[visit]
+        if not self.connections_of(who):
             self.devices.pop(who, None)
         return True
 

@@ -161,7 +161,7 @@ class Routes:
     async def in_thread(self, role: str, name: str, work: Callable[..., Reply], *values: object) -> Reply:
         """Does what may take time for a device of a role, and says in words what keeps it from being done."""
         try:
-            return await self.workers.done(role, name, functools.partial(self.guarded, work, *values))
+            return await self.workers.outcome(role, name, functools.partial(self.guarded, work, *values))
         except NotNow as why:
             # The device keeps the tap, and its place among those that wait.
             raise Wrong(503, sentence(why), "waits", said=remarks_of(why.said)) from None

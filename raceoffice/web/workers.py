@@ -31,7 +31,7 @@ class Workers:
         # Of those devices alone that have a turn
         self.turns: dict[str, Turns] = {}
 
-    async def done(self, role: str, name: str, work: Callable[[], Done]) -> Done:
+    async def outcome(self, role: str, name: str, work: Callable[[], Done]) -> Done:
         """What comes of it, in a thread of a role, once it is its turn among what the device of that name has asked for."""
         await self.take_turn(name)
         loop = asyncio.get_running_loop()
