@@ -249,7 +249,8 @@ class Gate:
     def cookie(self, request: Request, role: str) -> str:
         """The cookie by which a device of a role is known; empty if it isn't. Its browser may have others, of other
         offices on this computer."""
-        return next((value for _, value, mark in cookies_of(request, role) if self.is_of_role(mark, role)), "")
+        known = ((value, mark) for _, value, mark in cookies_of(request, role) if mark in self.devices)
+        return next((value for value, mark in known if self.is_of_role(mark, role)), "")
 
     def is_of_role(self, mark: str, role: str) -> bool:
         device = self.devices.get(mark)
@@ -337,4 +338,5 @@ def unknown() -> Wrong:
 
 def cookies_of(request: Request, role: str) -> list[tuple[str, str, str]]:
     """The cookies of a role that a request has. The name of an older package's has no more than the role."""
-    return [cookie for cookie in request.cookies if cookie[0].startswith(f"office-{role.lower()}")]
+    beginning = f"office-{role.lower()}"
+    return [cookie for cookie in request.cookies if cookie[0].startswith(beginning)]
