@@ -26,7 +26,7 @@ HEAD, LINE = 16 << 10, 2 << 10
 FIELDS, PARTS = 100, 16
 # A cookie by which a device may be known, of which a head has room for some 280. What has to be before it comes second, so
 # that a text without any is passed over quickly.
-COOKIE = re.compile("(office-(?<![^; ]office-)[a-z]{4,6}(?:-[0-9a-f]{8})?)=([^; ]{43,})")
+COOKIE = re.compile("(office-(?<=[; ]office-)[a-z]{4,6}(?:-[0-9a-f]{8})?)=([^; ]{43,})")
 REASONS = {200: "OK", 204: "No Content", 301: "Moved Permanently", 304: "Not Modified",
            400: "Bad Request", 401: "Unauthorized", 403: "Forbidden", 404: "Not Found",
            405: "Method Not Allowed", 408: "Request Timeout", 409: "Conflict", 413: "Content Too Large",
@@ -98,7 +98,7 @@ class Request:
     @functools.cached_property
     def cookies(self) -> list[tuple[str, str, str]]:
         """The cookies by which devices may be known: of each its name, its value and the hash of that."""
-        return [(name, value, hashed(value)) for name, value in COOKIE.findall(self.fields.get("cookie", ""))]
+        return [(name, value, hashed(value)) for name, value in COOKIE.findall(";" + self.fields.get("cookie", ""))]
 
     @property
     def takes_gzip(self) -> bool:
