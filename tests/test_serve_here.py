@@ -9,7 +9,7 @@ import unittest
 
 import helpers
 import test_web_qr
-from raceoffice.web.gate import hashed
+from raceoffice.web.requests import hashed
 
 ASKED = r"\? The results aren't final yet\. \[Y/n\] $"
 

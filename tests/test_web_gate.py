@@ -107,6 +107,8 @@ class Attacks(unittest.TestCase):
         self.assertEqual(self.status(self.finish, method="GET"), 404)
         self.assertEqual(self.status(self.finish, method="PUT", body=self.tap), 405)
         self.assertEqual(self.status(self.finish, "/", self.tap), 405)
+        for path in ("/live?page=/cup/", "/office/finish/live"):
+            self.assertEqual(self.status(self.finish, path, method="HEAD"), 405, path)
 
     def test_odd_taps(self) -> None:
         """What is no tap is answered so, and nothing of it is sent."""
@@ -195,6 +197,14 @@ class Attacks(unittest.TestCase):
         mine = [line for line in logged if line[5:6] == [self.line]]
         self.assertEqual([line[2] for line in mine], ["Eve2026Forged line"])
         self.assertEqual({len(line) for line in logged}, {7})
+
+    def test_time(self) -> None:
+        """The terminal says with the time who came, whatever that one is called."""
+        name = "12:44:24 Closed."
+        self.device("finish", name)
+        helpers.until("who came", lambda: f"{name} came from" in self.web.said())
+        line = next(line for line in self.web.said().splitlines() if f"{name} came from" in line)
+        self.assertRegex(line, f"^[0-9:]{{8}} finish: {name} came from {self.source}$")
 
     def test_names(self) -> None:
         """A name is that of one device, whatever its role; one that comes again by its link keeps its own."""
@@ -413,7 +423,9 @@ class Heads(unittest.TestCase):
         office = WebOffice(gate, "/none", "http://127.0.0.1/", print)
         routes = Routes(office)
         for line, field in (("/office" + "/%41" * 15, ""), ("/" + "%41" * 650, ""), ("/" + " " * 2000, ""), ("/live?page=" + "/%41" * 500, ""),
-                            ("/office/finish/me", "Cookie: " + ";" * 15_000), ("/", "Accept-Encoding: " + "," * 15_000),
+                            ("/office/finish/me", "Cookie: " + ";" * 15_000),
+                            ("/office/finish/me", "Cookie: " + f"office-finish={'A' * 43};" * 270), ("/office/finish/me", "Cookie: " + "office-finish" * 1200),
+                            ("/", "Accept-Encoding: " + "," * 15_000),
                             ("/", "\r\n".join(f"f{at}: {'x' * 100}" for at in range(97)))):
             head = f"GET {line} HTTP/1.1\r\nHost: 127.0.0.1\r\n{field}\r\n\r\n".encode()
             self.assertLess(len(head), HEAD)

@@ -7,17 +7,22 @@ import os
 import shutil
 import socket
 import tempfile
+import threading
 import unittest
 from collections.abc import Callable
 from contextlib import closing
+from typing import Any
 from unittest import mock
 
 import helpers
-from raceoffice.errors import Trouble
+from on_water import OnWater
+from raceoffice.errors import NotSent, Trouble
+from raceoffice.web import gate as gates
 from raceoffice.web.gate import Gate
-from raceoffice.web.requests import Request
-from raceoffice.web.web_office import WebOffice
-from web_devices import Device, Web, is_known
+from raceoffice.web.requests import Request, Wrong
+from raceoffice.web.routes import Routes
+from raceoffice.web.web_office import Class, WebOffice
+from web_devices import Device, Web, is_known, new_id
 
 # Seconds
 DAY = 86400.0
@@ -148,6 +153,25 @@ class Cookies(unittest.TestCase):
         self.assertEqual(again.partition("=")[0], first.partition("=")[0])
         self.assertEqual((self.knows(first)[0], self.knows(again)[0]), (False, True))
 
+    def test_many_links(self) -> None:
+        """A phone that is put out and comes by a new link, again and again, has one cookie of that office, beside 200 of an
+        older package and those of another office of its computer and of a copy, where it stays, too."""
+        self.come(self.gates[0])
+        shutil.copy(self.gates[0].path, path := os.path.join(self.holder, "copy.json"))
+        others = [self.gates[1], Gate(path)]
+        # A browser has them earliest first.
+        jar = {f"office-finish-{number:08x}": "A" * 43 for number in range(200)}
+        jar |= dict(self.come(gate).split("=") for gate in others)
+        for number in range(20):
+            # The web is started again each time.
+            gate = Gate(self.gates[0].path)
+            request = Request("POST", "/", {"cookie": "; ".join(map("=".join, jar.items()))}, "127.0.0.1")
+            cookie, called = gate.enter(request, "FINISH", gate.new_key("FINISH"), "Ann")
+            jar |= dict([cookie.partition(";")[0].split("=")])
+            held = Request("GET", "/", {"cookie": "; ".join(map("=".join, jar.items()))}, "127.0.0.1")
+            self.assertEqual((len(jar), [one.known(held, "FINISH") is not None for one in (gate, *others)]), (203, [True] * 3), number)
+            self.assertEqual(called, "Ann (2)")
+
     def test_put_out(self) -> None:
         """Two phones of one usual name are put out, and come in again by a new link in the other order: each has the name
         that it had, by which its taps are known. Another phone has neither, nor has one of theirs that is called otherwise."""
@@ -181,6 +205,85 @@ class Cookies(unittest.TestCase):
         """Its cookie has the role alone in its name, and is that of one office."""
         value = self.come(self.gates[0]).partition("=")[2]
         self.assertEqual(self.knows(f"office-finish={value}"), [True, False, True])
+
+
+class Noted:
+    """A lock that notes when somebody waits for it."""
+
+    def __init__(self, lock: Any) -> None:
+        self.lock, self.waiting = lock, threading.Semaphore(0)
+
+    def acquire(self, timeout: float = -1) -> bool:
+        self.waiting.release()
+        return bool(self.lock.acquire(timeout=timeout))
+
+    def release(self) -> None:
+        self.lock.release()
+
+    def __enter__(self) -> None:
+        self.acquire()
+
+    def __exit__(self, *_: object) -> None:
+        self.release()
+
+
+class PutOut(OnWater):
+    """A device is put out while what it has asked for waits."""
+
+    def setUp(self) -> None:
+        super().setUp()
+        self.gate = Gate("")
+        self.office = WebOffice(self.gate, self.here, "http://127.0.0.1/", print)
+        self.office.classes["cup"] = Class(self.room, mock.MagicMock(), mock.MagicMock())
+        self.routes, self.eve = Routes(self.office), self.come("FINISH")
+
+    def come(self, role: str) -> gates.Device:
+        """A device that has come."""
+        self.gate.enter(Request("POST", "/", {}, "127.0.0.1"), role, self.gate.new_key(role, False), "Eve")
+        return [*self.gate.devices.values()][-1]
+
+    def status(self, device: gates.Device, path: str, **values: object) -> int:
+        """The status of the answer once a thread does what a device has asked for."""
+        body = json.dumps({"id": new_id(), "agreed": [], **values}).encode()
+        request = Request("POST", "/", {"content-type": "application/json"}, "127.0.0.1", body)
+        try:
+            return self.routes.write(request, device.role, device, path.split("/")).status
+        except Wrong as wrong:
+            return wrong.status
+        except NotSent:
+            return 422
+
+    def test_before_a_thread(self) -> None:
+        """What waits for a thread isn't done any more, whatever it is."""
+        asked = [(self.come("SCORER"), "key"), (self.come("SCORER"), "close/cup"), (self.come("JURY"), "decide/cup"),
+                 (self.eve, "line/cup"), (self.eve, "leave")]
+        for device, path in asked:
+            self.gate.revoke(device.mark, False)
+            self.assertEqual(self.status(device, path, role="FINISH", line="FINISH 1 GBR7"), 401, path)
+
+    def test_before_its_turn(self) -> None:
+        """What waits for others of its class isn't done any more: a tap, a correction, a decision."""
+        scorer, jury, statuses = self.come("SCORER"), self.come("JURY"), dict[str, int]()
+        self.assertEqual(self.status(scorer, "line/cup", line="FINISH 1 GBR7"), 200)
+        before, noted = self.text("cup", "journal.txt"), Noted(self.room.lock)
+
+        def ask(device: gates.Device, path: str, **values: object) -> None:
+            statuses[path] = self.status(device, path, **values)
+
+        threads = [threading.Thread(target=ask, args=(self.eve, "line/cup"), kwargs={"line": "FINISH 1 GBR33"}),
+                   threading.Thread(target=ask, args=(scorer, "correct/cup"), kwargs={"lines": ["STRIKE 1 GBR7"]}),
+                   threading.Thread(target=ask, args=(jury, "decide/cup"), kwargs={"line": "MARK 1 GBR7 DSQ", "lines": ["JURY MARK 1 GBR7 DSQ"]})]
+        with mock.patch.object(self.room, "lock", noted), mock.patch("raceoffice.web.room.PATIENCE", helpers.PATIENCE):
+            with noted.lock:
+                for thread in threads:
+                    thread.start()
+                    self.assertTrue(noted.waiting.acquire(timeout=helpers.PATIENCE))
+                for device in (self.eve, scorer, jury):
+                    self.gate.revoke(device.mark)
+            for thread in threads:
+                thread.join()
+        self.assertEqual(statuses, {"line/cup": 401, "correct/cup": 401, "decide/cup": 401})
+        self.assertEqual(self.text("cup", "journal.txt"), before)
 
 
 class FullDisk(unittest.TestCase):

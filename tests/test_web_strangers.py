@@ -4,20 +4,25 @@ from __future__ import annotations
 import asyncio
 import contextlib
 import io
+import json
 import logging
 import socket
 import ssl
 import threading
 import unittest
+from collections.abc import Callable
 from unittest import mock
 
 import helpers
 from raceoffice.results.http_answers import Board
-from raceoffice.web.gate import DEVICES, QUIET, Gate, plain_name
+from raceoffice.web import hosting, workers
+from raceoffice.web.gate import DEVICES, QUIET, ROLES, Device, Gate, plain_name
 from raceoffice.web.hosting import PIECE, Host
 from raceoffice.web.page_news import PageNews
 from raceoffice.web.rates import Rate
 from raceoffice.web.requests import Reply, Request, Wrong
+from raceoffice.web.routes import Routes
+from raceoffice.web.web_office import WebOffice
 from web_devices import Web
 
 GET = b"GET / HTTP/1.1\r\n\r\n"
@@ -88,40 +93,75 @@ class Connections(unittest.IsolatedAsyncioTestCase):
             await asyncio.sleep(0.1)
         self.assertLessEqual(writers[-1].transport.get_write_buffer_size(), 3 * PIECE)
 
+    async def come(self, text: bytes) -> asyncio.StreamReader:
+        """What comes over one more connection of an address that may have four."""
+        reader, writer = await asyncio.open_connection(*self.door, local_addr=("127.0.0.2", 0))
+        self.addCleanup(writer.transport.abort)
+        self.links.append(writer)
+        if text:
+            await self.ask(reader, writer, text)
+        await self.until(lambda: len(self.host.visits["127.0.0.2"]) == min(4, len(self.links)))
+        return reader
+
+    async def ask(self, reader: asyncio.StreamReader, writer: asyncio.StreamWriter, text: bytes) -> None:
+        writer.write(text)
+        self.assertTrue((await reader.readuntil(b"ok")).startswith(b"HTTP/1.1 200"))
+
+    async def room_for_four(self) -> None:
+        self.data, self.links = b"ok", list[asyncio.StreamWriter]()
+        await self.host.start(*self.door, None)
+        self.host.most_of_one = 4
+
+    @mock.patch.object(hosting, "YOUNG", 0.0)
     async def test_same_address(self) -> None:
         """An address has all the connections that it may have: one more comes in for the one that came first and has asked for
         nothing, else for a stranger's, and for that of a device last. A device stays one, whatever it asks for next."""
-        self.data = b"ok"
-        await self.host.start(*self.door, None)
-        self.host.most_of_one = 4
-        links: list[tuple[asyncio.StreamReader, asyncio.StreamWriter]] = []
-
-        async def ask(reader: asyncio.StreamReader, writer: asyncio.StreamWriter, text: bytes) -> None:
-            writer.write(text)
-            self.assertTrue((await reader.readuntil(b"ok")).startswith(b"HTTP/1.1 200"))
-
-        async def come(text: bytes) -> None:
-            reader, writer = await asyncio.open_connection(*self.door, local_addr=("127.0.0.2", 0))
-            self.addCleanup(writer.transport.abort)
-            links.append((reader, writer))
-            if text:
-                await ask(reader, writer, text)
-            await self.until(lambda: len(self.host.visits["127.0.0.2"]) == min(4, len(links)))
+        await self.room_for_four()
 
         def known() -> list[int]:
-            return [len(level) for level in self.host.visits["127.0.0.2"].known]
+            crowd = self.host.visits["127.0.0.2"]
+            return [len(crowd.silent), len(crowd.strangers), sum(map(len, crowd.devices.values()))]
 
         device = b"GET / HTTP/1.1\r\nCookie: Ann\r\n\r\n"
-        for text in (device, b"", GET, b""):
-            await come(text)
+        readers = [await self.come(text) for text in (device, b"", GET, b"")]
         self.assertEqual(known(), [2, 1, 1])
-        await ask(*links[0], GET)
+        await self.ask(readers[0], self.links[0], GET)
         for text, wanted in ((GET, [1, 2, 1]), (device, [0, 2, 2]), (device, [0, 1, 3]), (GET, [0, 1, 3])):
-            await come(text)
+            readers.append(await self.come(text))
             self.assertEqual(known(), wanted)
         # Those that were given up have ended, in this order.
-        self.assertEqual([await links[at][0].read() for at in (1, 3, 2, 4)], [b""] * 4)
+        self.assertEqual([await readers[at].read() for at in (1, 3, 2, 4)], [b""] * 4)
         await self.until(lambda: (self.host.open, self.host.ending) == (4, 0))
+
+    @mock.patch.object(hosting, "YOUNG", helpers.PATIENCE)
+    async def test_young(self) -> None:
+        """A connection that has only just come, and so has asked for nothing, stays as long as strangers have some that rest:
+        these go, the first one first, and after them the young ones."""
+        await self.room_for_four()
+        readers = [await self.come(text) for text in (GET, b"", GET, b"", b"", b"")]
+        await self.until(lambda: [at for at, reader in enumerate(readers) if reader.at_eof()] == [0, 2])
+        readers += [await self.come(b""), await self.come(b"")]
+        await self.until(lambda: [reader.at_eof() for reader in readers] == [True] * 4 + [False] * 4)
+        await self.ask(readers[4], self.links[4], GET)
+
+    async def test_most_of_a_device(self) -> None:
+        """Where devices have all connections of an address, the one that has most gives its first one up: another keeps its
+        own, however long ago they came."""
+        await self.room_for_four()
+        ann, eve = (f"GET / HTTP/1.1\r\nCookie: {name}\r\n\r\n".encode() for name in ("Ann", "Eve"))
+        readers = [await self.come(text) for text in (ann, eve, eve, eve, eve, eve)]
+        await self.until(lambda: [at for at, reader in enumerate(readers) if reader.at_eof()] == [1, 2])
+        await self.ask(readers[0], self.links[0], ann)
+
+    @mock.patch.object(hosting, "YOUNG", helpers.PATIENCE)
+    @mock.patch.object(hosting, "FEW", 2)
+    async def test_many_of_a_device(self) -> None:
+        """A device that has many gives one up before a connection that has only just come."""
+        await self.room_for_four()
+        ann, eve = (f"GET / HTTP/1.1\r\nCookie: {name}\r\n\r\n".encode() for name in ("Ann", "Eve"))
+        readers = [await self.come(text) for text in (b"", eve, eve, eve, b"", b"")]
+        await self.until(lambda: [at for at, reader in enumerate(readers) if reader.at_eof()] == [0, 1])
+        await self.ask(readers[4], self.links[4], ann)
 
     async def test_given_up_at_its_end(self) -> None:
         """A connection that is given up while it ends has left its socket: the next one that has its number is heard."""
@@ -276,6 +316,85 @@ class Links(unittest.TestCase):
         self.assertEqual((tried[0], tried[-1]), (403, 429))
         self.keys["FINISH"] = key
         self.come()
+
+
+class Roles(unittest.IsolatedAsyncioTestCase):
+    """What the devices of a role ask for, as many as came by one link, and nothing of it is done for a while."""
+
+    async def asyncSetUp(self) -> None:
+        self.gate, self.begun, self.go_on = Gate(""), list[str](), threading.Event()
+        self.gate.coming = Rate(1000, 0)
+        self.routes = Routes(WebOffice(self.gate, "/none", "http://127.0.0.1/", lambda text: None))
+        self.keys = {role: self.gate.new_key(role) for role in ROLES}
+        self.asked = list[asyncio.Task[object]]()
+        writing = mock.patch.object(self.routes, "write", self.write)
+        writing.start()
+        self.addCleanup(writing.stop)
+        self.addCleanup(self.go_on.set)
+
+    def write(self, request: Request, role: str, device: Device, rest: list[str]) -> Reply:
+        """Writes what a device of the finish asks for, once all may go on."""
+        self.begun.append(device.name)
+        if role == "FINISH":
+            self.go_on.wait(helpers.PATIENCE)
+        return Reply()
+
+    def come(self, role: str, name: str) -> str:
+        """The cookie of a device that comes."""
+        return self.gate.enter(Request("POST", "/", {}, "127.0.0.1"), role, self.keys[role], name)[0].partition(";")[0]
+
+    def ask(self, role: str, cookie: str) -> asyncio.Task[object]:
+        """A request that writes."""
+        fields = {"cookie": cookie, "host": "127.0.0.1", "origin": "http://127.0.0.1"}
+        fields["x-token"] = self.gate.token(Request("POST", "/", fields, ""), role)
+        answer = self.routes.answer(Request("POST", f"/office/{role.lower()}/line/cup", fields, "127.0.0.1"))
+        self.asked.append(asyncio.get_running_loop().create_task(answer))
+        return self.asked[-1]
+
+    async def until(self, what: str, holds: Callable[[], object]) -> None:
+        """Waits until something holds."""
+        for _ in range(int(helpers.PATIENCE * 100)):
+            if holds():
+                return
+            await asyncio.sleep(0.01)
+        self.fail(f"{what} didn't come about")
+
+    async def test_other_roles(self) -> None:
+        """Other roles don't wait, nor does whoever comes by a link."""
+        for number in range(30):
+            cookie = self.come("FINISH", f"Eve {number}")
+            for _ in range(4):
+                self.ask("FINISH", cookie)
+        await self.until("the first", lambda: self.begun)
+        for role in ("SCORER", "JURY"):
+            answer = self.ask(role, self.come(role, role))
+            await self.until(role, answer.done)
+        body = json.dumps({"role": "FINISH", "key": self.keys["FINISH"], "name": "Ann"}).encode()
+        fields = {"host": "127.0.0.1", "origin": "http://127.0.0.1", "content-type": "application/json"}
+        reply = asyncio.create_task(self.routes.answer(Request("POST", "/office/in", fields, "127.0.0.1", body)))
+        self.asked.append(reply)
+        await self.until("whoever comes", reply.done)
+        self.go_on.set()
+        await asyncio.gather(*self.asked)
+        self.assertEqual(len(self.begun), 122)
+
+    async def test_one_device(self) -> None:
+        """Of one device a few requests are begun, and the rest after them, also if some were given up meanwhile; another
+        device doesn't wait for them. Nothing is known any more of a device once all is done."""
+        eve, ann = self.come("FINISH", "Eve"), self.come("FINISH", "Ann")
+        asked = [self.ask("FINISH", eve) for _ in range(50)]
+        await self.until("some of Eve's", lambda: len(self.begun) == workers.AT_ONCE)
+        self.ask("FINISH", ann)
+        await self.until("Ann's", lambda: "Ann" in self.begun)
+        for answer in (*asked[:2], *asked[20:30]):
+            answer.cancel()
+        await asyncio.gather(*asked[:2], *asked[20:30], return_exceptions=True)
+        # Those whose connections were given up have their threads still.
+        self.assertEqual(self.begun, ["Eve"] * workers.AT_ONCE + ["Ann"])
+        self.go_on.set()
+        await asyncio.gather(*self.asked, return_exceptions=True)
+        self.assertEqual(self.begun.count("Eve"), 40)
+        await self.until("the end", lambda: not self.routes.workers.turns)
 
 
 class Waiting(Web):

@@ -406,6 +406,27 @@ class Timed(Prepared):
         self.assertEqual(self.finish(ann.again(), "GBR7", "15:05:00", id)["entry"], 6)
         self.assertEqual(self.journal(), ["FINISH TIME 1 GBR101 3600", "FINISH TIME 1 GBR7 3510", "FINISH TIME 1 NED12 3601"])
 
+    def test_odd_code(self) -> None:
+        """A word that is no code of a sheet is refused before anything is written, and others finish. A row that was made odd
+        by hand is put right by a code or by taking it away, also one of two."""
+        ann, scorer = self.device("finish"), self.device("scorer")
+        ann.tap("START 1 14:00")
+        before = self.sheet()
+        for code in ("2", "XXX", "TIE", "-", "12:00", "DNG", "=HYPERLINK(1)", "ZFP", "T1"):
+            status, said = ann.tap(f"MARK 1 GBR7 {code}")
+            self.assertEqual((status, said["said"][0]["kind"] in ("sheet-no-code", "sheet-decided")), (422, True), (code, said))
+        self.assertEqual((self.sheet(), self.finish(ann, "GBR101", "15:00:00")["outcome"]), (before, "taken"))
+        held = self.text("cup", "times", "race-1.csv").replace("GBR7,14:00:00,,", "GBR7,14:00:00,XXX,").replace(
+            "FRA9,14:00:00,,", "FRA9,14:00:00,,2")
+        self.write(held, "cup", "times", "race-1.csv")
+        for line, status, outcome in (("CLEAR 1 NED12", 503, None), ("FINISH 1 NED12", 503, None), ("CLEAR 1 FRA9", 200, "noted"),
+                                      ("FINISH 1 NED12", 503, None), ("MARK 1 GBR7 DNF", 200, "taken")):
+            found, said = scorer.tap(line, at=moment("14:48:01"))
+            self.assertEqual((found, said.get("outcome")), (status, outcome), (line, said))
+        self.assertEqual(self.finish(ann, "NED12", "14:48:01")["outcome"], "taken")
+        self.assertEqual(self.sheet()[1:], ["GBR101,14:00:00,15:00:00,", "GBR7,14:00:00,,DNF", "NED12,14:00:00,14:48:01,",
+                                            "FRA9,14:00:00,,"])
+
     def test_left_out(self) -> None:
         """A row of a boat that isn't entered holds up nobody, wherever it stands, and the scorer hears of it once."""
         ann, scorer = self.device("finish"), self.device("scorer")

@@ -6,17 +6,17 @@ import os
 import re
 from collections.abc import Sequence
 
-from raceoffice.corrected.sheets import DECIDED, FORMS, TIMES, entries_of, with_seconds
+from raceoffice.corrected.sheets import FORMS, TIMES, entries_of, fault_of_code, with_seconds
 from raceoffice.corrected.sheets import HEADS as COLUMNS
 from raceoffice.corrected.times import KEYS, ROUNDINGS, RULES, SYSTEMS
 from raceoffice.errors import NotSent, NotThere, Trouble
 from raceoffice.files import replace_whole
-from raceoffice.remarks import remark
+from raceoffice.remarks import Remark, remark
 from raceoffice.series.entry_list import plain
 from raceoffice.series.folder import Folder
 from raceoffice.series.headings import SHEET, columns
 from raceoffice.series.race_sheets import SHEETS, sheet_name
-from raceoffice.series.read_list import as_csv, bytes_of, table_of, wrong_form
+from raceoffice.series.read_list import as_csv, bytes_of, table_of
 from raceoffice.series.settings import head_of, lines_of, rows_of
 
 # The headings of a new sheet, and that of each column that is added to another.
@@ -24,12 +24,13 @@ HEADS = {"sail": "Sail", "start": "Start", "finish": "Finish", "code": "Code"}
 
 
 class SheetOfRace:
-    """The sheet of one race, in a series' folder; an empty one if there is none yet."""
+    """The sheet of one race, in a series' folder; an empty one if there is none yet. One whose rows can't all be read is
+    for `is_to_mend` alone: `faults` are what is wrong with them."""
 
-    def __init__(self, folder: Folder, race: int) -> None:
-        self.path, self.name = folder.file(sheet_name(race)), sheet_name(race)
+    def __init__(self, folder: Folder, race: int, is_to_mend: bool = False) -> None:
+        self.path, self.name, self.is_to_mend = folder.file(sheet_name(race)), sheet_name(race), is_to_mend
         self.heads, self.rows = list(HEADS.values()), list[list[str]]()
-        self.places = columns(self.heads, SHEET)
+        self.places, self.faults = columns(self.heads, SHEET), list[Remark]()
         try:
             self.read(bytes_of(self.path))
         except NotThere:
@@ -37,10 +38,9 @@ class SheetOfRace:
 
     def read(self, data: bytes) -> None:
         """Reads what there is; a Trouble if it isn't a sheet."""
-        wrong = wrong_form(data, self.name)
-        faults = [wrong] if wrong else entries_of(data, self.name)[1]
-        if faults:
-            raise Trouble(*faults)
+        found, self.faults = entries_of(data, self.name)
+        if self.faults and not (found and self.is_to_mend):
+            raise Trouble(*self.faults)
         table = table_of(data)
         self.heads = list(table.heads)
         self.places = columns(self.heads, SHEET)
@@ -57,6 +57,12 @@ class SheetOfRace:
     def data(self) -> bytes:
         """The sheet as it is written."""
         return as_csv([self.heads, *self.rows])
+
+    def need_mended(self) -> None:
+        """A Trouble if as many rows can't be read as before."""
+        left = entries_of(self.data, self.name)[1] if self.faults else []
+        if left and len(left) >= len(self.faults):
+            raise Trouble(*left)
 
     def write(self) -> None:
         """Puts the sheet on the disk, whole."""
@@ -158,7 +164,10 @@ class SheetOfRace:
         return bool(had)
 
     def code(self, sail: str, code: str) -> bool:
-        """Gives a boat a code, or takes hers away if it is empty; whether that is another."""
+        """Gives a boat a code, or takes hers away if it is empty; whether that is another. NotSent if it isn't one for a
+        sheet."""
+        if fault := fault_of_code(code):
+            raise NotSent(fault)
         row = self.row(sail)
         before = self.cell(row, "code")
         for key in TIMES:
@@ -205,8 +214,3 @@ def with_rule(text: str, key: str, value: str) -> str:
 def is_form(key: str, text: str) -> bool:
     """Whether a text is one of a column."""
     return re.fullmatch(FORMS[key][0], text) is not None
-
-
-def is_for_sheet(code: str) -> bool:
-    """Whether a sheet may have a code: what is decided elsewhere isn't in one."""
-    return code not in DECIDED

@@ -6,7 +6,6 @@ can't come in by it. The program doesn't know of any of this: the web layer send
 from __future__ import annotations
 
 import contextlib
-import hashlib
 import hmac
 import itertools
 import json
@@ -27,7 +26,7 @@ from raceoffice.files import read_whole, replace_whole
 from raceoffice.results.http_answers import addresses
 from raceoffice.web.own_clock import OwnClock
 from raceoffice.web.rates import Rate
-from raceoffice.web.requests import Request, Wrong
+from raceoffice.web.requests import Request, Wrong, hashed
 
 ROLES = ("FINISH", "JURY", "SCORER")
 # The file of them, in office/ of the first series that is served.
@@ -42,10 +41,6 @@ QUIET = 3600.0
 OUT, NUMBER = 1000, re.compile(r" \([0-9]+\)$")
 # The most bytes of the file.
 LARGEST = 1 << 20
-
-
-def hashed(text: str) -> str:
-    return hashlib.sha256(text.encode("utf-8", "replace")).hexdigest()
 
 
 def same(one: str, other: str) -> bool:
@@ -104,6 +99,8 @@ class Gate:
         self.devices: dict[str, Device] = {}
         # The names of the last devices that were put out, by their marks: each stays that of its device.
         self.out: dict[str, str] = {}
+        # What its cookies are called by, beside its path: a copy of its folder is another office.
+        self.naming = secrets.token_hex(8)
         self.clock = OwnClock()
         self.written, self.is_heard = time.monotonic(), False
         # Tries at a secret by address; lines and questions by device.
@@ -128,6 +125,7 @@ class Gate:
             self.devices = {mark: device_of(values) for mark, values in held["devices"].items()}
             # An older package hasn't written them.
             self.out = {mark: str(name) for mark, name in held.get("out", {}).items()}
+            self.naming = str(held.get("naming", self.naming))
             if "clock" in held:
                 self.clock.go_on(held["clock"])
         except NotThere:
@@ -141,7 +139,7 @@ class Gate:
         if not self.path:
             return
         held = {"keys": self.keys, "devices": {mark: asdict(device) for mark, device in self.devices.items()},
-                "out": self.out, "clock": self.clock.values()}
+                "out": self.out, "naming": self.naming, "clock": self.clock.values()}
         replace_whole(self.path, json.dumps(held).encode())
         os.chmod(self.path, 0o600)
 
@@ -195,9 +193,7 @@ class Gate:
     def enter(self, request: Request, role: str, secret: str, name: str) -> tuple[str, str]:
         """The cookie of a device that shows the secret of a role, and its name. If another has that already it gets a
         number, so that a name is that of one device."""
-        cookie, now = secrets.token_urlsafe(32), self.clock.now()
-        # A browser has one cookie of a name for all ports of a computer: each device's has another name.
-        cookie_name = f"{beginning_of(role)}-{secrets.token_hex(4)}"
+        cookie, cookie_name, now = secrets.token_urlsafe(32), self.cookie_name(role), self.clock.now()
         with self.changing():
             held = self.keys.get(role, "")
             if not held or not same(held, hashed(secret)):
@@ -208,9 +204,9 @@ class Gate:
             if before := self.known(request, role):
                 # It comes again.
                 self.devices.pop(before.mark, None)
-                cookie_name = next(name for name, value in request.cookies(beginning_of(role)) if hashed(value) == before.mark)
+                cookie_name = next(name for name, _, mark in cookies_of(request, role) if mark == before.mark)
             self.make_room(role)
-            own = [hashed(value) for _, value in request.cookies(beginning_of(role))]
+            own = [mark for _, _, mark in cookies_of(request, role)]
             device = Device(hashed(cookie), role, self.free_name(plain_name(name) or role.lower(), own), now, now, 0,
                             request.address)
             self.devices[device.mark] = device
@@ -218,6 +214,11 @@ class Gate:
         secure = "; Secure" if self.is_secure else ""
         return (f"{cookie_name}={cookie}; Path=/office/{role.lower()}; Max-Age={LONG}; HttpOnly; "
                 f"SameSite=Strict{secure}"), device.name
+
+    def cookie_name(self, role: str) -> str:
+        """What the cookies of a role are called. A browser has one of a name for all ports of a computer: so each office's are
+        called otherwise, and a device that comes again, also by a new link, has no more of them than before."""
+        return f"office-{role.lower()}-{hashed(f'{self.naming} {os.path.realpath(self.path)}')[:8]}"
 
     def make_room(self, role: str) -> None:
         """Puts a device of a role out if there are as many as there may be: the one that was heard last, an hour ago or
@@ -248,8 +249,8 @@ class Gate:
     def cookie(self, request: Request, role: str) -> str:
         """The cookie by which a device of a role is known; empty if it isn't. Its browser may have others, of other
         offices on this computer."""
-        held = [value for _, value in request.cookies(beginning_of(role))]
-        return next((cookie for cookie in held if self.is_of_role(hashed(cookie), role)), "")
+        known = ((value, mark) for _, value, mark in cookies_of(request, role) if mark in self.devices)
+        return next((value for value, mark in known if self.is_of_role(mark, role)), "")
 
     def is_of_role(self, mark: str, role: str) -> bool:
         device = self.devices.get(mark)
@@ -264,13 +265,18 @@ class Gate:
         """The device that a request comes from; 401 if it isn't one of this role."""
         device = self.known(request, role)
         if device is None:
-            raise Wrong(401, "this device isn't known here: open the link of your role again")
+            raise unknown()
         device.heard, device.address = self.clock.now(), request.address
         unsent = request.fields.get("x-unsent", "")
         if unsent.isascii() and unsent.isdecimal():
             device.unsent = min(int(unsent[:6]), 9999)
         self.is_heard = True
         return device
+
+    def need(self, device: Device) -> None:
+        """401 if a device has been put out, as while its request waited."""
+        if not self.lets_in(device.mark):
+            raise unknown()
 
     def holding(self, but: str = "") -> list[str]:
         """The devices that said they hold taps which the office hasn't got, each with how many, as `Ann (2)`; without
@@ -326,6 +332,11 @@ class Gate:
         return device
 
 
-def beginning_of(role: str) -> str:
-    """What the names of a role's cookies begin with. That of an older package has no more than that."""
-    return f"office-{role.lower()}"
+def unknown() -> Wrong:
+    return Wrong(401, "this device isn't known here: open the link of your role again")
+
+
+def cookies_of(request: Request, role: str) -> list[tuple[str, str, str]]:
+    """The cookies of a role that a request has. The name of an older package's has no more than the role."""
+    beginning = f"office-{role.lower()}"
+    return [cookie for cookie in request.cookies if cookie[0].startswith(beginning)]

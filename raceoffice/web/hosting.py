@@ -13,6 +13,7 @@ import itertools
 import logging
 import socket
 import ssl
+import time
 import traceback
 from collections.abc import Awaitable, Callable, Mapping
 from dataclasses import dataclass
@@ -45,8 +46,9 @@ PIECE = 64 << 10
 WAITING, TOGETHER = 1024, 16
 # Seconds for a connection to end in order.
 MOMENT = 1.0
-# What is known of who has a connection: it has asked for nothing yet, is a stranger, or a device that was let in.
-SILENT, STRANGER, DEVICE = range(3)
+# Who has a connection, if it isn't that of a device: one that has asked for nothing yet, or a stranger. Seconds for which the
+# first ones are young: a phone has asked by then. So many the pages of a device may have.
+SILENT, STRANGER, YOUNG, FEW = "silent", "", 1.0, 32
 # It prints what clients do to connections, and a terminal that was stopped would hold up all of them.
 logging.getLogger("asyncio").addHandler(logging.NullHandler())
 logging.getLogger("asyncio").propagate = False
@@ -181,38 +183,55 @@ class Waiting:
 
 
 class Crowd:
-    """The connections of one address that haven't been given up, by what is known of each, in the order in which that was
-    learnt."""
+    """The connections of one address that haven't been given up, by who has them: silent ones, strangers, and each device that
+    was let in; each with its moment, in the order in which that was learnt."""
 
     def __init__(self) -> None:
-        self.known: tuple[dict[asyncio.Task[None], None], ...] = ({}, {}, {})
+        self.who: dict[asyncio.Task[None], str] = {}
+        self.silent, self.strangers = dict[asyncio.Task[None], float](), dict[asyncio.Task[None], float]()
+        self.devices: dict[str, dict[asyncio.Task[None], float]] = {}
 
     def __len__(self) -> int:
-        return sum(map(len, self.known))
+        return len(self.who)
 
-    def add(self, visit: asyncio.Task[None]) -> None:
-        self.known[SILENT][visit] = None
+    def connections_of(self, who: str) -> dict[asyncio.Task[None], float]:
+        """The connections that somebody has."""
+        if who in (SILENT, STRANGER):
+            return self.silent if who == SILENT else self.strangers
+        return self.devices.setdefault(who, {})
 
-    def learn(self, visit: asyncio.Task[None], what: int) -> None:
-        """Notes what is known of one now; a device stays one, whatever it asks for next."""
-        for less in self.known[:what]:
-            if visit in less:
-                del less[visit]
-                self.known[what][visit] = None
+    def add(self, visit: asyncio.Task[None], who: str = SILENT) -> None:
+        self.who[visit] = who
+        self.connections_of(who)[visit] = time.monotonic()
+
+    def learn(self, visit: asyncio.Task[None], who: str) -> None:
+        """Notes who has one now: a stranger, or a device, which stays that one, whatever it asks for next."""
+        before = self.who.get(visit)
+        if before == SILENT or before == STRANGER != who:
+            self.is_removed(visit)
+            self.add(visit, who)
 
     def take_first(self) -> asyncio.Task[None]:
-        """The first one of those of which least is known, which is no part of the crowd any more."""
-        found = next(level for level in self.known if level)
+        """The one that is given up first, which is no part of the crowd any more: the first silent one if that isn't young,
+        else a stranger's, else one of the device that has most, if it has many or nobody is silent."""
+        is_old = bool(self.silent) and time.monotonic() - next(iter(self.silent.values())) >= YOUNG
+        found = self.silent if is_old else self.strangers
+        if not found:
+            most = max(self.devices.values(), key=len, default=self.silent)
+            found = most if len(most) > FEW or not self.silent else self.silent
         visit = next(iter(found))
-        del found[visit]
+        self.is_removed(visit)
         return visit
 
     def is_removed(self, visit: asyncio.Task[None]) -> bool:
         """Removes one that has ended; whether it was here."""
-        here = [level for level in self.known if visit in level]
-        for level in here:
-            del level[visit]
-        return bool(here)
+        who = self.who.pop(visit, None)
+        if who is None:
+            return False
+        del self.connections_of(who)[visit]
+        if not self.connections_of(who):
+            self.devices.pop(who, None)
+        return True
 
 
 class Host:
@@ -290,7 +309,7 @@ class Host:
         return True
 
     def give_up(self, crowd: Crowd) -> None:
-        """Ends the connection of an address that came first among those of which least is known."""
+        """Ends the connection of an address that goes first."""
         self.ending += 1
         crowd.take_first().cancel()
 
@@ -340,12 +359,14 @@ class Host:
         # However many requests have come already, those of others have their turn in between. Strangers don't take the
         # turns of a device that has their address.
         device = self.device(request)
-        self.learn(address, DEVICE if device else STRANGER)
+        self.learn(address, device or STRANGER)
         await asyncio.sleep(self.turns.pause(device or address))
         try:
             reply = await self.answer(request)
         except Wrong as wrong:
             reply = wrong.reply()
+        if isinstance(reply, Waiting) and request.method == "HEAD":
+            reply = Wrong(405).reply()
         if isinstance(reply, Waiting):
             await self.send_news(reader, writer, reply, address)
             return False
@@ -354,11 +375,11 @@ class Host:
         # A client that has gone gets no more answers, whatever it asked in advance.
         return not is_last and not writer.transport.is_closing()
 
-    def learn(self, address: str, what: int) -> None:
-        """Notes what is known of who has the connection that is served just now."""
+    def learn(self, address: str, who: str) -> None:
+        """Notes who has the connection that is served just now."""
         visit, crowd = asyncio.current_task(), self.visits.get(address)
         if visit is not None and crowd is not None:
-            crowd.learn(visit, what)
+            crowd.learn(visit, who)
 
     async def send_news(self, reader: asyncio.StreamReader, writer: asyncio.StreamWriter, reply: Waiting,
                         address: str) -> None:

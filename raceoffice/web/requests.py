@@ -9,6 +9,7 @@ import functools
 import gzip
 import hashlib
 import json
+import re
 import urllib.parse
 from collections.abc import Iterator, Mapping, Sequence
 from dataclasses import dataclass, field
@@ -19,12 +20,13 @@ from raceoffice.results.http_answers import VERSIONS
 
 # Seconds for a request's head to come, for its body, and for a connection without a request.
 HEAD_TIME, BODY_TIME, IDLE = 10.0, 30.0, 70.0
-# The most bytes of a request's head and of its first line; how many fields and cookies it may have, and how many parts
-# its path. Whatever it has, reading it takes the thread of all connections about a millisecond.
+# The most bytes of a request's head and of its first line; how many fields it may have, and how many parts its path.
+# Whatever it has, reading it takes the thread of all connections about a millisecond.
 HEAD, LINE = 16 << 10, 2 << 10
-FIELDS, COOKIES, PARTS = 100, 200, 16
-# At how many offices of a computer a browser may be at once
-OFFICES = 16
+FIELDS, PARTS = 100, 16
+# A cookie by which a device may be known, of which a head has room for some 280. What has to be before it comes second, so
+# that a text without any is passed over quickly.
+COOKIE = re.compile("(office-(?<=[; ]office-)[a-z]{4,6}(?:-[0-9a-f]{8})?)=([^; ]{43,})")
 REASONS = {200: "OK", 204: "No Content", 301: "Moved Permanently", 304: "Not Modified",
            400: "Bad Request", 401: "Unauthorized", 403: "Forbidden", 404: "Not Found",
            405: "Method Not Allowed", 408: "Request Timeout", 409: "Conflict", 413: "Content Too Large",
@@ -93,10 +95,10 @@ class Request:
             raise Wrong(400, "the body can't be read")
         return found
 
-    def cookies(self, beginning: str) -> list[tuple[str, str]]:
-        """The cookies whose names begin so: their names and values."""
-        pairs = (part.strip().partition("=") for part in self.fields.get("cookie", "").split(";", COOKIES))
-        return [(name, value) for name, _, value in pairs if name.startswith(beginning)][:OFFICES]
+    @functools.cached_property
+    def cookies(self) -> list[tuple[str, str, str]]:
+        """The cookies by which devices may be known: of each its name, its value and the hash of that."""
+        return [(name, value, hashed(value)) for name, value in COOKIE.findall(";" + self.fields.get("cookie", ""))]
 
     @property
     def takes_gzip(self) -> bool:
@@ -119,6 +121,10 @@ class Reply:
     is_ready: bool = False
     # Part of a page, as a script or a style: what is said of pages holds for the page that loads it.
     is_part: bool = False
+
+
+def hashed(text: str) -> str:
+    return hashlib.sha256(text.encode("utf-8", "replace")).hexdigest()
 
 
 def reply_of(values: object, status: int = 200, fields: Mapping[str, str] | None = None) -> Reply:

@@ -265,11 +265,13 @@ class Room:
 
     # A tap
 
-    def do(self, role: str, name: str, tap: Tap) -> Values:
-        """Does a tap once; what came of it. The same tap again gets the same answer."""
+    def do(self, role: str, name: str, tap: Tap, need: Callable[[], None] = lambda: None) -> Values:
+        """Does a tap once; what came of it. The same tap again gets the same answer. `need` raises what keeps it from being
+        done once it has its turn."""
         if not self.lock.acquire(timeout=PATIENCE):
             raise Trouble(remark("line-before"))
         try:
+            need()
             self.register.need_own()
             # While the office is away, the journal that it will have may lack what was answered.
             if not self.trouble and (done := self.done(tap)):

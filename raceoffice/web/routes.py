@@ -1,8 +1,6 @@
 """What each address of the office does, for which role."""
 from __future__ import annotations
 
-import asyncio
-import concurrent.futures
 import contextlib
 import functools
 import json
@@ -10,7 +8,7 @@ import os
 import re
 import secrets
 import time
-from collections.abc import Callable
+from collections.abc import Callable, Iterator
 from typing import Any
 
 from raceoffice.errors import NotNow, NotSent, Trouble
@@ -40,6 +38,7 @@ from raceoffice.web.tap_session import Asked
 from raceoffice.web.taps import LATEST, NoTap, Tap, agreed_in
 from raceoffice.web.timed_taps import races_waiting
 from raceoffice.web.web_office import Class, WebOffice
+from raceoffice.web.workers import Workers
 
 STATIC = os.path.join(os.path.dirname(os.path.abspath(__file__)), "static")
 KINDS = {".html": "text/html", ".js": "text/javascript", ".css": "text/css", ".svg": "image/svg+xml",
@@ -47,7 +46,6 @@ KINDS = {".html": "text/html", ".js": "text/javascript", ".css": "text/css", ".s
 PAGES = {role.lower(): f"{role.lower()}.html" for role in ROLES}
 # The most bytes of a body: of somebody whom nobody knows, of a device, and of one that sends a list.
 FOR_ALL, FOR_DEVICES, FOR_LISTS = 4 << 10, 256 << 10, 5 << 20
-WORKERS = 24
 # What a line of each role may begin with beside the lines that it sends.
 OWN = {"UNDO", "ABANDON"}
 
@@ -68,7 +66,7 @@ class Routes:
 
     def __init__(self, office: WebOffice) -> None:
         self.office, self.gate = office, office.gate
-        self.pool = concurrent.futures.ThreadPoolExecutor(WORKERS)
+        self.workers = Workers()
         self.files = static_files()
         self.states: dict[tuple[str, bool], tuple[int, bytes]] = {}
 
@@ -102,17 +100,17 @@ class Routes:
             case [] | ["in"] if is_reading:
                 return tagged(request, *self.file("enter.html"))
             case ["in"]:
-                return await self.in_thread(self.enter, request)
+                return await self.in_thread("", request.address, self.enter, request)
             case [role, "in"] if role in PAGES and not is_reading:
                 # A browser that comes again sends its cookie here.
-                return await self.in_thread(self.enter, request)
+                return await self.in_thread("", request.address, self.enter, request)
             case ["static", *names] if is_reading:
                 return self.part("/".join(names), request)
             case [role, *rest] if role in PAGES and is_reading:
                 return await self.read(request, role.upper(), rest)
             case [role, *rest] if role in PAGES:
                 device = self.gate.check_write(request, role.upper())
-                return await self.in_thread(self.write, request, role.upper(), device, rest)
+                return await self.in_thread(device.role, device.mark, self.write, request, device.role, device, rest)
         raise Wrong(404)
 
     def file(self, name: str) -> tuple[str, bytes]:
@@ -160,10 +158,10 @@ class Routes:
         self.office.tell(f"{role.lower()}: {name} came from {request.address}")
         return reply_of({"next": f"/office/{role.lower()}/", "name": name}, 200, {"Set-Cookie": cookie})
 
-    async def in_thread(self, work: Callable[..., Reply], *values: object) -> Reply:
-        """Does what may take time, and says in words what keeps it from being done."""
+    async def in_thread(self, role: str, name: str, work: Callable[..., Reply], *values: object) -> Reply:
+        """Does what may take time for a device of a role, and says in words what keeps it from being done."""
         try:
-            return await asyncio.get_running_loop().run_in_executor(self.pool, self.guarded, work, *values)
+            return await self.workers.outcome(role, name, functools.partial(self.guarded, work, *values))
         except NotNow as why:
             # The device keeps the tap, and its place among those that wait.
             raise Wrong(503, sentence(why), "waits", said=remarks_of(why.said)) from None
@@ -193,6 +191,7 @@ class Routes:
             return tagged(request, *self.file("worker.js"))
         device = self.gate.device(request, role)
         self.gate.asking.take(device.mark)
+        in_thread = functools.partial(self.in_thread, role, device.mark)
         match rest:
             case ["me"]:
                 self.need_a_class()
@@ -200,21 +199,21 @@ class Routes:
             case ["live"]:
                 return Waiting(functools.partial(self.office.news.serve, name=device.mark), device.mark)
             case ["state", name]:
-                return await self.in_thread(self.state, request, role, self.room(name))
+                return await in_thread(self.state, request, role, self.room(name))
             case ["rulings", name] if role == "JURY":
-                return await self.in_thread(self.rulings, self.room(name))
+                return await in_thread(self.rulings, self.room(name))
             case ["devices"] if role == "SCORER":
-                return await self.in_thread(self.devices, device)
+                return await in_thread(self.devices, device)
             case ["listed", name] if role == "SCORER":
-                return await self.in_thread(self.list_shown, self.room(name))
+                return await in_thread(self.list_shown, self.room(name))
             case ["rules", name] if role == "SCORER":
-                return await self.in_thread(self.rules, self.room(name))
+                return await in_thread(self.rules, self.room(name))
             case ["results", name] if role == "SCORER":
-                return await self.in_thread(self.results, self.one(name))
+                return await in_thread(self.results, self.one(name))
             case ["export", form, *names] if role == "SCORER" and len(names) < 2:
-                return await self.in_thread(self.export, form, [*map(self.one, names)])
+                return await in_thread(self.export, form, [*map(self.one, names)])
             case ["sheet", name, race] if role == "SCORER":
-                return await self.in_thread(self.sheet, self.room(name), race)
+                return await in_thread(self.sheet, self.room(name), race)
         raise Wrong(404)
 
     def me(self, request: Request, role: str, device: Device) -> Values:
@@ -278,7 +277,15 @@ class Routes:
 
     # What is written
 
+    @contextlib.contextmanager
+    def turn(self, room: Room, device: Device) -> Iterator[None]:
+        """While a device changes a class; 401 if it was put out before it had its turn."""
+        with room.lock:
+            self.gate.need(device)
+            yield
+
     def write(self, request: Request, role: str, device: Device, rest: list[str]) -> Reply:
+        self.gate.need(device)
         match rest:
             case ["line", name]:
                 return self.line(request, role, device, self.room(name))
@@ -324,7 +331,7 @@ class Routes:
             case ["rules", name]:
                 return self.rules_effect(request, self.room(name))
             case ["sheet", name]:
-                return self.save_sheet(request, self.room(name))
+                return self.save_sheet(request, device, self.room(name))
             case ["second", name]:
                 return self.choose_second(request, device, self.one(name))
             case ["save", name]:
@@ -353,7 +360,7 @@ class Routes:
             self.gate.refused.check(device.mark)
             ask_of_series(room, tap)
             ask_of_unsent(room, tap, self.gate.holding(device.mark))
-        done = room.do(role, device.name, tap)
+        done = room.do(role, device.name, tap, lambda: self.gate.need(device))
         if is_idle(done):
             self.gate.refused.pause(device.mark)
         return reply_of(done | {"version": room.version, "now": now()})
@@ -378,24 +385,24 @@ class Routes:
         """What a decision comes to, or taking one out, and whom it moves."""
         return reply_of(rulings.ruling_shown(room, request.values()))
 
-    @staticmethod
-    def decide(request: Request, device: Device, room: Room) -> Reply:
+    def decide(self, request: Request, device: Device, room: Room) -> Reply:
         """Keeps a decision in decisions.txt, or takes it out, and sends the lines that it takes. The same again gets
         the same answer."""
-        done = rulings.decide(room, request.values(), device.name)
+        with self.turn(room, device):
+            done = rulings.decide(room, request.values(), device.name)
         return reply_of({"outcome": "taken", "done": done, "version": room.version})
 
-    @staticmethod
-    def correct(request: Request, device: Device, room: Room) -> Reply:
+    def correct(self, request: Request, device: Device, room: Room) -> Reply:
         """Sends the lines of a correction, asks of them alone, or leaves what is left of one."""
         values = request.values()
-        if values.get("ask") is True:
-            corrections.ask_whole(room, values, device.name)
-            return reply_of({"outcome": "asked", "version": room.version})
-        if values.get("leave") is True:
-            corrections.leave_rest(room, values)
-            return reply_of({"outcome": "left", "version": room.version})
-        found = corrections.correct(room, values, device.name)
+        with self.turn(room, device):
+            if values.get("ask") is True:
+                corrections.ask_whole(room, values, device.name)
+                return reply_of({"outcome": "asked", "version": room.version})
+            if values.get("leave") is True:
+                corrections.leave_rest(room, values)
+                return reply_of({"outcome": "left", "version": room.version})
+            found = corrections.correct(room, values, device.name)
         found["version"] = room.version
         return reply_of(found)
 
@@ -444,10 +451,9 @@ class Routes:
         """Which of the names of a boat the entry list has columns for."""
         return reply_of(boat_names.list_shown(room.folder))
 
-    @staticmethod
-    def name_boat(request: Request, device: Device, room: Room) -> Reply:
+    def name_boat(self, request: Request, device: Device, room: Room) -> Reply:
         """Puts the names of a boat that is entered into the entry list."""
-        with room.lock:
+        with self.turn(room, device):
             session = room.session("SCORER")
             session.look()
             is_another = boat_names.name_boat(room.folder, room.facts, request.values(), device.name)
@@ -470,10 +476,9 @@ class Routes:
         """The sheet of times of a race."""
         return reply_of(times_sheet.sheet_shown(room.folder, room.facts, race))
 
-    @staticmethod
-    def save_sheet(request: Request, room: Room) -> Reply:
+    def save_sheet(self, request: Request, device: Device, room: Room) -> Reply:
         """Changes the sheet of times of a race. The tap TIMES sends the lines that follow from it."""
-        with room.lock:
+        with self.turn(room, device):
             found = times_sheet.save_sheet(room.folder, room.facts, request.values())
         room.news()
         return reply_of(found)
@@ -485,15 +490,14 @@ class Routes:
 
     def save(self, request: Request, device: Device, room: Room) -> Reply:
         """Saves settings, if they are still as they were shown."""
-        with room.lock:
+        with self.turn(room, device):
             series_settings.save(room.folder, room.facts, request.values(), device.name)
         room.news()
         return self.rules(room)
 
-    @staticmethod
-    def choose_second(request: Request, device: Device, one: Class) -> Reply:
+    def choose_second(self, request: Request, device: Device, one: Class) -> Reply:
         """Makes a stick the second folder of a class, or none."""
-        with one.room.lock:
+        with self.turn(one.room, device):
             sticks.choose(one.room.folder, one.office, request.values(), device.name)
         one.results.copies.look_again()
         return reply_of(one.results.shown())
@@ -501,7 +505,8 @@ class Routes:
     def declare(self, request: Request, device: Device, one: Class) -> Reply:
         """Declares the results provisional, final or amended, or says what is asked before."""
         try:
-            return reply_of(one.results.declare(device.name, request.values()))
+            with self.turn(one.room, device):
+                return reply_of(one.results.declare(device.name, request.values()))
         except Unasked as asked:
             return reply_of(asked.values, 409)
 

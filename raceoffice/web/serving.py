@@ -5,7 +5,6 @@ import asyncio
 import contextlib
 import functools
 import os
-import re
 import signal
 import ssl
 import sys
@@ -32,8 +31,6 @@ from raceoffice.web.web_office import WebOffice, gate_of
 FIRST, TICK = 10.0, 0.05
 # Seconds within which a second Ctrl-C closes an office to which devices may still write.
 SURE = 10.0
-# What an office says with the time already: `cup: 12:44:24 Closed.`
-HAS_TIME = re.compile(r"[^:]+: [0-9]{2}:[0-9]{2}:[0-9]{2} ")
 READY = "Ctrl-C closes the office."
 # What is added to the number of a signal that ends a command: so a shell has it.
 ENDED = 128
@@ -76,7 +73,7 @@ class Web:
     def tell(self, text: str) -> None:
         """Says what happens: also at a terminal that has gone."""
         for line in text.splitlines():
-            say_if_heard(f"{clock()} {line}" if self.is_ready and not HAS_TIME.match(line) else line)
+            say_if_heard(f"{clock()} {line}" if self.is_ready else line)
 
     def note(self, trace: str) -> None:
         """Notes what went wrong in answering somebody, and says so, once for each trace."""

@@ -11,7 +11,7 @@ from collections.abc import Sequence
 from raceoffice.corrected.sheets import Entry, entries_of, with_seconds
 from raceoffice.corrected.times import Rules, Sheets
 from raceoffice.corrected.unsent import unsent
-from raceoffice.corrected.write_sheet import SheetOfRace, is_for_sheet
+from raceoffice.corrected.write_sheet import SheetOfRace
 from raceoffice.errors import NotNow, NotSent, NotThere, Trouble
 from raceoffice.program.codes import OF_JURY
 from raceoffice.program.replay import Line
@@ -84,7 +84,9 @@ class TimedTap:
 
     def is_sheet_written(self) -> bool:
         """Writes what was tapped into the sheet, if that hasn't had it from an earlier try; whether that is meant."""
-        sheet, register = SheetOfRace(self.folder, self.race.number), self.session.register
+        # A code, or taking one away, may put a row right that somebody has written by hand.
+        is_to_mend = self.command in ("MARK", "CLEAR")
+        sheet, register = SheetOfRace(self.folder, self.race.number, is_to_mend), self.session.register
         before, sent = cells_of(sheet, self.sail), register.sent.get(self.session.tap.id)
         if sent and is_made(register, sent, before):
             # Somebody may have changed it since.
@@ -92,6 +94,7 @@ class TimedTap:
         if sent and sent.made and before != sent.was and not self.is_first_finish:
             raise NotSent(remark("sheet-changed"))
         self.change(sheet)
+        sheet.need_mended()
         # All lines of a tap are about one race: what is asked of one is asked of all.
         if not is_meant(self.session, self.likely_line()):
             return False
@@ -169,7 +172,7 @@ class TimedTap:
         elif self.command == "STRIKE":
             if not (sheet.take_finish(self.sail) or self.sail in self.race.times or self.is_begun):
                 raise NotSent(remark("no-finish", boat=self.session.facts.called(self.sail), race=self.race.number))
-        elif self.command == "MARK" and is_for_sheet(self.rest[-1]):
+        elif self.command == "MARK":
             sheet.code(self.sail, self.rest[-1])
         elif self.command == "CLEAR":
             sheet.code(self.sail, "")

@@ -3,6 +3,7 @@ from __future__ import annotations
 
 import contextlib
 import json
+import re
 import threading
 from collections.abc import Callable
 from dataclasses import dataclass, field
@@ -14,7 +15,7 @@ from raceoffice.results.http_answers import LOOPBACK, Board, addresses
 from raceoffice.results.source import need_own_names
 from raceoffice.series.folder import Folder
 from raceoffice.series.unknown_finishers import places_by_race
-from raceoffice.terminal import sentence
+from raceoffice.terminal import say_if_heard, sentence
 from raceoffice.traces import guarded
 from raceoffice.web.declarations import Declarations
 from raceoffice.web.gate import DEVICES_FILE, Gate
@@ -29,6 +30,8 @@ from raceoffice.wording import count
 AT_ONCE, SOON = 0.02, 0.4
 # Seconds after which a device that hasn't been heard isn't expected to write.
 RECENT = 3600
+# What an office says with the time: `12:44:24 Closed.`
+HAS_TIME = re.compile("[0-9]{2}:[0-9]{2}:[0-9]{2} ")
 
 
 @dataclass
@@ -132,8 +135,12 @@ class WebOffice:
             self.add(Folder(self.left_out[name].path))
 
     def tell_of(self, name: str, text: str) -> None:
-        """What an office says, with the class before each line."""
-        self.tell("\n".join(f"{name}: {line}" for line in text.splitlines()))
+        """What an office says, with the class before each line. Some of its lines have the time already."""
+        for line in text.splitlines():
+            if HAS_TIME.match(line):
+                say_if_heard(f"{name}: {line}")
+            else:
+                self.tell(f"{name}: {line}")
 
     def keep_board(self) -> None:
         """Keeps the board up to date until the end, and notes when devices were heard."""
