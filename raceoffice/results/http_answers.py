@@ -20,6 +20,8 @@ from raceoffice.results.html import assets
 
 # How many bytes a request may have.
 LARGEST = 8192
+# How many slashes an address may have: a page of the board is at most in the folder of a class.
+DEEPEST = 8
 # The versions of HTTP in which somebody may ask.
 VERSIONS = ("HTTP/1.0", "HTTP/1.1")
 WORDS = {301: "The page is at the address with a slash at its end.",
@@ -94,7 +96,9 @@ class Request:
 
 def address_of(path: str) -> str:
     """The address that a path stands for, in the one way in which the board writes it: a browser may
-    leave signs as they are that others write by their numbers."""
+    leave signs as they are that others write by their numbers. Nothing is at one of many folders."""
+    if path.count("/") > DEEPEST:
+        return path
     parts = [urllib.parse.unquote_to_bytes(part.encode("latin-1")) for part in path.split("/")]
     return "/".join(urllib.parse.quote(part, safe="") for part in parts)
 
