@@ -43,6 +43,7 @@ class SettingsPage(WebTrial):
         scorer.click("#reopen")
         scorer.choose("yes")
         scorer.until("document.querySelector('dialog[open] h2')?.textContent === 'Is that right?'")
+        self.assertIn("No leaves it open with the old ones", scorer.text("dialog[open]"))
         scorer.choose("yes")
         scorer.until("!document.querySelector('#waiting') && !!document.querySelector('#save')")
         scorer.click("#tab-races")
