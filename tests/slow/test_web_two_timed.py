@@ -72,6 +72,24 @@ class TwoTimed(TimedTrial):
         phone.until(f"{TITLE} === 'Folkboats: Start of race 1'")
         self.need_no_faults()
 
+    def test_in_the_order_of_taps(self) -> None:
+        """Finishers of two classes are in the order in which they came, before the start of one is given and after it."""
+        phone = self.phone()
+        for name in ("cup", "lev"):
+            self.race(phone, name)
+        taps = [("lev", "GBR101"), ("cup", "NED80"), ("lev", "NED12"), ("cup", "GBR33"), ("lev", "GBR33")]
+        for name, sail in taps:
+            phone.tap(sail, name)
+        came, rows = [f"{name} {sail}" for name, sail in taps], "[...document.querySelectorAll('#list li')].map(row => row.dataset.key)"
+        self.settle(phone)
+        phone.until(f"document.querySelectorAll('#list li').length === {len(taps)}")
+        self.assertEqual(phone.run(rows), came)
+        self.assertEqual(phone.count("#list li b:empty"), 0)
+        self.begun(phone, "00:00:00", "Folkboats: Start of race 1")
+        phone.until("!document.querySelector('#list').textContent.includes('in the sheet only')")
+        self.assertEqual(phone.run(rows), came)
+        self.need_no_faults()
+
     def test_one_window(self) -> None:
         """A finger that presses again while a part of the page is still fetched opens one window."""
         phone = self.phone()
