@@ -90,6 +90,16 @@ class TwoTimed(TimedTrial):
         self.assertEqual(phone.run(rows), came)
         self.need_no_faults()
 
+    def test_of_one_second(self) -> None:
+        """Boats of one second are in the order of their taps, with a start and without one."""
+        phone = self.phone()
+        for elapsed in ("null", "3600"):
+            rows = ", ".join(f"{sail}: {{finish: '15:00:00', code: '', elapsed: {elapsed}}}" for sail in ("GBR33", "NED80", "SWE2"))
+            race = f"{{at: {{GBR33: 1700, NED80: 1100, SWE2: 1400}}, sheet: {{start: '', rows: {{{rows}}}}}}}"
+            order = f"import('/office/static/race-view.js').then(({{atTheLine}}) => atTheLine({race}).order.join())"
+            self.assertEqual(phone.run(order), "NED80,SWE2,GBR33", elapsed)
+        self.need_no_faults()
+
     def test_one_window(self) -> None:
         """A finger that presses again while a part of the page is still fetched opens one window."""
         phone = self.phone()
