@@ -100,6 +100,22 @@ class TwoTimed(TimedTrial):
             self.assertEqual(phone.run(order), "NED80,SWE2,GBR33", elapsed)
         self.need_no_faults()
 
+    def test_which_class(self) -> None:
+        """A sail that isn't read needs one class alone: the page names the button that does it."""
+        phone = self.phone()
+        for name in ("cup", "lev"):
+            self.race(phone, name)
+        phone.until("!document.querySelector('#unread').disabled")
+        phone.click("#unread")
+        phone.until("document.querySelector('#said').textContent === 'Which class? First press the race number of the other one, and “not sailing”.'")
+        phone.click("#races [data-key=cup]")
+        phone.until(ASKED)
+        self.assertEqual(phone.text("dialog[open] [data-value=none]"), "not sailing")
+        phone.choose("none")
+        phone.click("#unread")
+        phone.until("document.querySelector('#list li.unread')?.innerText.includes('?1')")
+        self.need_no_faults()
+
     def test_one_window(self) -> None:
         """A finger that presses again while a part of the page is still fetched opens one window."""
         phone = self.phone()
