@@ -222,6 +222,33 @@ class Desk(TimedTrial):
         self.assertNotIn("00:00:00", "".join(self.rows("cup")))
         self.need_no_faults()
 
+    def test_places_of_an_abandoned_race(self) -> None:
+        """A place that a phone keeps is named when its race is abandoned, and goes: it is none of the resail, and nobody is asked
+        about it any more."""
+        phone, scorer = self.phone(), self.device("scorer", "Bea’s laptop")
+        self.race(phone, "cup")
+        self.begun(phone, "00:00:00", "Folkboats: Start of race 1")
+        phone.click("#unread")
+        phone.until("document.querySelector('#list li.unread')?.innerText.includes('?1')")
+        phone.tap("GBR33")
+        self.settle(phone)
+        scorer.until("document.querySelectorAll('.order tbody tr').length === 1")
+        scorer.click("#abandon")
+        scorer.until("document.querySelector('dialog[open]')?.textContent.includes('Ann’s phone (1): taps that the office hasn’t got yet. Places')")
+        scorer.choose("yes")
+        scorer.until("document.querySelector('dialog[open]')?.textContent.includes('Abandon race 1?')")
+        scorer.choose("yes")
+        phone.until("!document.querySelector('#list li') && document.querySelector('#start').textContent === 'Start'")
+        self.begun(phone, "00:00:01", "Folkboats: Start of race 1")
+        phone.tap("GBR33")
+        self.settle(phone)
+        self.assertEqual(phone.run("[...document.querySelectorAll('#list li')].map(row => row.dataset.key)"), ["cup GBR33"])
+        scorer.until("document.querySelectorAll('.order tbody tr').length === 1 && !document.querySelector('#score').disabled")
+        scorer.click("#score")
+        scorer.until(ASKED)
+        self.assertNotIn("Ann’s phone", scorer.text("dialog[open]"))
+        self.need_no_faults()
+
     def test_a_sheet_meanwhile(self) -> None:
         """Boats finish while starts are typed: the sheet is saved. Somebody else's start meanwhile is shown, and what was typed stays
         until it is saved again."""
