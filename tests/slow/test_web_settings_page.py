@@ -119,6 +119,7 @@ class EntriesPage(WebTrial):
         scorer.click("#correct-names")
         scorer.click(f"dialog button[data-sail={SAILS[0]}]")
         scorer.until("!!document.querySelector('dialog input[name=name]')")
+        self.assertEqual(scorer.text("dialog[open] h2"), "Correct the entry list · GBR 101")
         was = scorer.run("document.querySelector('dialog input[name=name]').value")
         scorer.type("dialog input[name=name]", "Kestrels")
         scorer.choose("yes")
