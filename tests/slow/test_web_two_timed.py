@@ -209,6 +209,15 @@ class TwoTimed(TimedTrial):
 
 
 class Desk(TimedTrial):
+    def test_without_a_start(self) -> None:
+        """Why a finisher is in the sheet alone is a sentence of its own."""
+        phone, scorer = self.phone(), self.device("scorer", "Bea’s laptop")
+        self.race(phone, "cup")
+        phone.tap("GBR33")
+        scorer.until("!!document.querySelector('#in-sheet')")
+        self.assertRegex(scorer.text("#in-sheet"), "^In the sheet, and not in the journal yet:\n\nHer start isn’t recorded, or is after her finish.\n")
+        self.need_no_faults()
+
     def test_a_start_alone(self) -> None:
         """The head of a race has its start. A race that has a start alone can be abandoned, and not be scored."""
         phone, scorer = self.phone(), self.device("scorer", "Bea’s laptop")
