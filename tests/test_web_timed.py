@@ -103,6 +103,22 @@ class Timed(Prepared):
         status, said = ann.tap("FINISH 1 FRA9", at=1 << 52)
         self.assertEqual((status, "the clock of this device" in said["words"]), (422, True), said)
 
+    def test_moments_before_the_start(self) -> None:
+        """A finisher has the moment of her tap before the start is known, too, until the sheet has another finish of hers or
+        none."""
+        ann, scorer = self.device("finish"), self.device("scorer")
+        for sail, clock in [("GBR7", "15:05:00"), ("GBR101", "15:05:00"), ("NED12", "15:06:00")]:
+            self.assertEqual(self.finish(ann, sail, clock)["outcome"], "noted")
+        tapped = {"GBR7": moment("15:05:00"), "GBR101": moment("15:05:00"), "NED12": moment("15:06:00")}
+        for line in ("", "START 1 14:00:00"):
+            if line:
+                ann.tap(line)
+            race = scorer.state()["races"]["1"]
+            self.assertEqual((race["at"], race["by"]), (tapped, {sail: "Ann" for sail in tapped}), line)
+        ann.tap("STRIKE 1 NED12")
+        scorer.tap("FINISH 1 GBR7 15:07:00 15:05:00")
+        self.assertEqual(scorer.state()["races"]["1"]["at"], {"GBR101": moment("15:05:00")})
+
     def test_typed_with_dots(self) -> None:
         """A start and an elapsed time may be typed with dots, as a finish may: 15:00:00 after 13:51:58 is 4,082 s x 1.000,
         and 3,900 s x 0.900."""

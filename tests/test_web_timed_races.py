@@ -85,6 +85,19 @@ class Races(Prepared):
         self.assertEqual((self.journal(), self.sheet()[1]), ([], "GBR101,16:00:00,,"))
         self.assertNotIn("GBR101", scorer.state()["races"]["1"]["sheet"]["rows"])
 
+    def test_places_on_devices(self) -> None:
+        """The places of a race by corrected time are kept on devices: these are named before it is abandoned, and learn when it
+        was."""
+        ann, scorer = self.device("finish"), self.device("scorer")
+        ann.ask("GET", "/office/finish/me", X_Unsent="1")
+        ann.tap("START 1 14:00", X_Unsent="1")
+        self.assertEqual(ann.state()["abandoned"], {})
+        before, said = int(time.time() * 1000), scorer.tap("ABANDON 1")
+        self.assertEqual((said[0], said[1]["question"]["kind"], said[1]["question"]["values"]),
+                         (409, "abandon-unsent", {"race": 1, "devices": ["Ann (1)"]}))
+        self.yes(scorer, "ABANDON 1")
+        self.assertTrue(before <= ann.state()["abandoned"]["1"] <= time.time() * 1000)
+
     def test_late_start(self) -> None:
         """A start that was tapped before a recall, and comes after the scorer has typed the right one, is asked about; and so
         is one beside a start that somebody wrote into the sheet: 3,600 s x 1.000."""

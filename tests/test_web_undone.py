@@ -55,6 +55,18 @@ class Undone(Web):
         self.assertEqual(ann.tap("UNDO", undo, undoes=taps[0])[1]["line"], "STRIKE 1 GBR7")
         self.assertEqual(ann.tap("UNDO", undoes=undo)[1]["line"], "BEFORE 1 GBR7 NED12")
 
+    def test_struck_and_tapped_again(self) -> None:
+        """A boat is struck and tapped again, and that is undone: the undo of the strike is refused, and nobody is asked first."""
+        ann, struck, again = self.device("finish"), new_id(), new_id()
+        for sail in ("GBR101", "GBR7", "NED12", "FRA9"):
+            ann.tap(f"FINISH 1 {sail}")
+        ann.tap("STRIKE 1 NED12", struck)
+        ann.tap("FINISH 1 NED12", again)
+        self.assertEqual(ann.tap("STRIKE 1 NED12", undoes=again)[1]["outcome"], "taken")
+        before, (status, said) = self.journal(), ann.tap("BEFORE 1 NED12 FRA9", undoes=struck)
+        self.assertEqual((status, [one["kind"] for one in said.get("said", [])]), (422, ["undo-later"]), said)
+        self.assertEqual(self.journal(), before)
+
     def test_after_a_crash(self) -> None:
         """The web died before it had noted the answer, or before it sent the line: the journal says whether the line was
         taken, and the undo goes by that. What was never taken isn't taken afterwards."""

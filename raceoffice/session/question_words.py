@@ -87,6 +87,12 @@ def of_unsent(words: Words) -> str:
     return f"Taps that the office hasn't got wait on {joined(words.all('devices'))}. Score race {words.text('race')} all the same?"
 
 
+def of_kept_by_devices(words: Words) -> str:
+    """Devices that hold taps, each with how many, before a race by corrected time is abandoned."""
+    return (f"Taps that the office hasn't got wait on {joined(words.all('devices'))}. Places that they keep of race "
+            f"{words.text('race')} are dropped. Abandon it all the same?")
+
+
 def of_codes(words: Words) -> str:
     return "Only boats with a code are in the finishing order. Score it all the same?"
 
@@ -267,6 +273,7 @@ WORDS: dict[str, Callable[[Words], str]] = {
     "sent-already": of_same_line, "others-recorded": of_others, "tapped-too": of_tapped_too,
     "start-since": of_start, "start-abandoned": of_old_start, "abandoned-since": of_abandoned,
     "other-since": of_other_line, "place-ahead": of_place_ahead, "score-unsent": of_unsent,
+    "abandon-unsent": of_kept_by_devices,
     "another-series": of_another_series,
     # Before an office is opened.
     "use-copy": of_copy, "not-continued": of_difference, "new-rules": of_rules,

@@ -112,8 +112,10 @@ def is_back(seat: Seat, race: int, line: str) -> bool:
 def line_if_moved(seat: Seat, done: Done, entries: int) -> str:
     """The line that puts a boat that was struck, or a place that was dropped, where she was, if somebody who was ahead of her
     when the journal had this many entries is behind her now, or the other way round; empty if nobody is, or of anything
-    else that was done. So it may be after a swap: she was between the two."""
-    if not (done.line.startswith("STRIKE ") or done.unread and done.what == "dropped"):
+    else that was done. So it may be after a swap: she was between the two. Empty, too, if something was written about the
+    same since: then nothing takes the strike back."""
+    is_struck = done.line.startswith("STRIKE ") and not later_entry(seat.facts, done.number)
+    if not (is_struck or done.unread and done.what == "dropped"):
         return ""
     number, name = (done.unread.race, done.unread.mark) if done.unread else (int(done.line.split()[1]), done.line.split()[2])
     before, now = seat.places.read(seat.facts.commands[:entries]).order(number), seat.history.order(number)

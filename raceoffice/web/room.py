@@ -33,7 +33,7 @@ from raceoffice.web.finish_order import Moments, as_placed, later_in_order, line
 from raceoffice.web.late_taps import asked_if_abandoned, asked_of_new_places
 from raceoffice.web.preview import NO_ENTRIES, decided_shown
 from raceoffice.web.race_start import clock_shown
-from raceoffice.web.row_changes import TAKING, entries_of_starts, is_timed_again, recorded_again
+from raceoffice.web.row_changes import TAKING, entries_of_starts, is_timed_again, moments_noted, recorded_again
 from raceoffice.web.sheet_waits import with_reasons
 from raceoffice.web.states import (Values, boats_of, moves_of, races_of, rules_of, said_of, standing_of, unlisted)
 from raceoffice.web.tap_session import TapSession
@@ -154,6 +154,9 @@ class Room:
             "version": self.version, "entries": len(facts.sheet.journal), "trouble": self.trouble,
             "handicap": settings.handicap, "zone": clock_shown(self.folder), "rules": settings.in_words(), "settings": rules_of(settings),
             "boats": boats_of(facts), "races": self.races(facts)}
+        if settings.handicap:
+            # What devices keep of these races from before then is of another sailing.
+            found["abandoned"] = {str(race): moment for race, moment in abandonments(self.folder).items()}
         if is_whole:
             labels = self.decisions.look(facts.sheet).labels
             found |= {"standing": standing_of(labelled(facts.standing, labels)), "last": self.last,
@@ -169,17 +172,16 @@ class Room:
 
     def races(self, facts: Facts) -> Values:
         """The races of which anything is recorded, with their sheets of times if the class has some."""
-        moments = self.moments(facts)
         sheets = with_reasons(self.folder, sheets_shown(self.folder))
+        noted = self.of_this_sailing(moments_noted(self.register, sheets))
+        races = races_of(facts, self.history.waiting, self.moments(facts), noted, sheets)
         return {number: values | ({"sheet": sheets[int(number)]} if int(number) in sheets else {})
-                for number, values in races_of(facts, self.history.waiting, moments, sheets).items()}
+                for number, values in races.items()}
 
     def moments(self, facts: Facts) -> Moments:
         """When each finisher crossed the line, and who recorded her, as far as that is known. A boat that was put into a
-        place did when that was kept. What was tapped before the race was abandoned is of another sailing."""
-        abandoned = abandonments(self.folder)
-        found = {finisher: moment for finisher, moment in self.register.moments(facts.sheet.journal).items()
-                 if moment[0] > abandoned.get(finisher[0], 0)}
+        place did when that was kept."""
+        found = self.of_this_sailing(self.register.moments(facts.sheet.journal))
         for race in {note.race for note in self.history.placed}:
             marks = self.times_of_places(self.history, race)
             for sail, mark in self.history.boats_in_places(race).items():
@@ -187,6 +189,12 @@ class Room:
                 if mark in marks and end:
                     found[race, sail] = marks[mark], found.get((race, sail), (0, end.by))[1]
         return found
+
+    def of_this_sailing(self, moments: Moments) -> dict[tuple[int, str], tuple[int, str]]:
+        """Those of some moments that are of races as they are sailed now: what was tapped before a race was abandoned is of
+        another sailing."""
+        abandoned = abandonments(self.folder)
+        return {finisher: moment for finisher, moment in moments.items() if moment[0] > abandoned.get(finisher[0], 0)}
 
     # The office
 

@@ -599,12 +599,16 @@ def ask_of_series(room: Room, tap: Tap) -> None:
 
 
 def ask_of_unsent(room: Room, tap: Tap, holding: list[str]) -> None:
-    """Asks before a race is to count while devices hold taps, which may be of that race: she who was tapped would be DNC."""
+    """Asks before a race is to count while devices hold taps, which may be of that race: she who was tapped would be DNC. So it
+    does before a race by corrected time is abandoned, whose places are kept on devices."""
     first, *rest = tap.line.split()
-    race = room.facts.series.races.get(race_number(rest[0])) if len(rest) == 1 else None
-    if not holding or COMMANDS.get(first, first) != "SCORE" or race is None or race.counts:
+    number = race_number(rest[0]) if len(rest) == 1 else 0
+    race, command = room.facts.series.races.get(number), COMMANDS.get(first, first)
+    is_scored = command == "SCORE" and race is not None and not race.counts
+    if not holding or not (is_scored or number and command == "ABANDON" and room.folder.settings.handicap):
         return
-    asked = question("score-unsent", str, race=race.number, devices=holding)
+    asked = question("score-unsent", str, race=number, devices=holding) if is_scored else \
+        question("abandon-unsent", str, race=number, devices=holding)
     if asked not in tap.agreed:
         raise Asked(asked, [])
 

@@ -3,7 +3,8 @@ is done once, and an undo takes away nothing that somebody else has recorded sin
 from __future__ import annotations
 
 import itertools
-from collections.abc import Sequence
+from collections.abc import Mapping, Sequence
+from typing import Any
 
 from raceoffice.corrected.write_sheet import SheetOfRace
 from raceoffice.errors import NotSent
@@ -57,6 +58,22 @@ def is_answered(session: TapSession, sent: Sent) -> bool:
     own = {part.own for part in session.register.parts(sent.id)}
     return any(sent.is_before(entry, number) and entry not in own and is_about_same(sent.line, entry.split(maxsplit=3)[3])
                for number, entry in enumerate(session.facts.sheet.journal, 1))
+
+
+def moments_noted(register: Register, sheets: Mapping[int, Any]) -> dict[tuple[int, str], tuple[int, str]]:
+    """When each finisher was tapped, and on which device, whose tap was for the sheet alone, as before the start is known.
+    The sheets have her finish by that tap still."""
+    found = dict[tuple[int, str], tuple[int, str]]()
+    for sent in register.all():
+        finisher = finisher_of(sent.line) if sent.answer == "NOTED" and sent.at and not sent.changed_nothing else None
+        if finisher and finish_in(sheets, *finisher) == sent.made.get("finish"):
+            found[finisher] = (sent.at, sent.by)
+    return found
+
+
+def finish_in(sheets: Mapping[int, Any], race: int, sail: str) -> str:
+    """The finish of a boat in the sheets as they are shown; empty if she has none."""
+    return str(sheets[race]["rows"].get(sail, {}).get("finish", "")) if race in sheets else ""
 
 
 # What was recorded since a tap

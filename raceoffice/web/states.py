@@ -16,18 +16,20 @@ from raceoffice.web.finish_order import Moments
 Values = dict[str, object]
 
 
-def races_of(facts: Facts, waiting: Waiting, moments: Moments, others: Iterable[int] = ()) -> dict[str, Values]:
+def races_of(facts: Facts, waiting: Waiting, moments: Moments, noted: Moments, others: Iterable[int] = ()) -> dict[str, Values]:
     """The races of which anything is recorded, or a place is kept, and others, by their numbers."""
     numbers = {number for number, race in facts.series.races.items() if race.is_recorded or race.counts}
     numbers |= set(others)
     numbers |= {unread.race for unread in waiting.all}
-    return {str(number): race_of(facts.race(str(number)), waiting, moments) for number in sorted(numbers)}
+    return {str(number): race_of(facts.race(str(number)), waiting, moments, noted) for number in sorted(numbers)}
 
 
-def race_of(race: Race, waiting: Waiting, moments: Moments) -> Values:
+def race_of(race: Race, waiting: Waiting, moments: Moments, noted: Moments) -> Values:
+    """A race as a page gets it. `noted` are the moments of finishers in its sheet of times, who may be in no order yet."""
     places = waiting.places(race)
     here = {sail: moments[race.number, sail] for group in race.order for sail in group
             if (race.number, sail) in moments}
+    here |= {sail: moment for (number, sail), moment in noted.items() if number == race.number}
     return {"counts": race.counts, "order": race.order, "codes": race.codes, "penalties": race.penalties,
             "redress": race.redress, "times": race.times,
             "at": {sail: at for sail, (at, _) in here.items()},

@@ -327,11 +327,11 @@ class TwoClasses(WebTrial):
     """A scorer's and a jury's desk with two classes."""
     classes = {"cup": entries_of(BOATS), "fleet": entries_of(FOLKBOATS)}
 
-    def sail(self, desk: web_devices.Device, name: str, *sails: str) -> None:
-        for line in (*(f"FINISH 1 {sail}" for sail in sails), "SCORE 1"):
+    def sail(self, desk: web_devices.Device, name: str, *sails: str, race: int = 1) -> None:
+        for line in (*(f"FINISH {race} {sail}" for sail in sails), f"SCORE {race}"):
             others = [boat[0].replace(" ", "") for boat in (BOATS if name == "cup" else FOLKBOATS)]
             missing = [sail for sail in others if sail not in sails]
-            desk.tap(line, name=name, agreed=[{"kind": "score-missing", "values": {"race": 1, "sails": missing}}])
+            desk.tap(line, name=name, agreed=[{"kind": "score-missing", "values": {"race": race, "sails": missing}}])
 
     def test_decisions(self) -> None:
         """A DPI that is out of date shows at once on the pages that are open. What the jury kept, and what it is just
@@ -370,6 +370,29 @@ class TwoClasses(WebTrial):
         for device in (jury, scorer):
             device.until("!document.querySelector('#stale')")
         self.assertEqual(self.journal()[-2:], ["JURY CLEAR 1 GBR7", "JURY REDRESS 1 GBR7 4.5"])
+        self.need_no_faults()
+
+    def test_average_of_no_race(self) -> None:
+        """An average as redress that has no race to count, as of those before the first one: the page says that she keeps her own
+        score."""
+        desk = web_devices.Device(self.port, "scorer").come(self.links["scorer"], "Ada")
+        self.sail(desk, "cup", *SAILS[:4])
+        jury = self.device("jury", "Protest room")
+        jury.click("#boat")
+        jury.click(f"dialog [data-sail={SAILS[1]}]")
+
+        def is_said(words: str) -> None:
+            jury.until(f"!!document.querySelector('#send') && document.querySelector('#preview .mono').textContent.includes('{words}')")
+        for number, what, is_alone in ((1, "PRIOR", True), (1, "ALL", True), (1, "DSQ", False), (2, "ALL", False), (2, "PRIOR", True)):
+            if number == 2 and what == "ALL":
+                self.sail(desk, "cup", *SAILS[:4], race=2)
+                jury.until("document.querySelectorAll('#race option').length === 2")
+            jury.click(f"#what-{what}")
+            is_said(what)
+            self.assertEqual("There is no race for the average: she keeps" in jury.text("#preview"), is_alone, (number, what))
+        jury.type("#race", "2")
+        is_said(" 2 ")
+        self.assertNotIn("There is no race", jury.text("#preview"))
         self.need_no_faults()
 
     def test_ticks(self) -> None:

@@ -43,6 +43,7 @@ class SettingsPage(WebTrial):
         scorer.click("#reopen")
         scorer.choose("yes")
         scorer.until("document.querySelector('dialog[open] h2')?.textContent === 'Is that right?'")
+        self.assertIn("No leaves it open with the old ones", scorer.text("dialog[open]"))
         scorer.choose("yes")
         scorer.until("!document.querySelector('#waiting') && !!document.querySelector('#save')")
         scorer.click("#tab-races")
@@ -81,6 +82,30 @@ class SettingsPage(WebTrial):
         self.assertIn("RRS A5.2", scorer.text("#waiting"))
         self.need_no_faults()
 
+    def test_rules_of_a_closed_office(self) -> None:
+        """Rules that wait for the opening of a closed class: nobody keeps it, and the page opens it with them."""
+        scorer = self.device("scorer", "Bea’s laptop")
+        scorer.click("#tab-settings")
+        scorer.until("!!document.querySelector('#save') && !document.querySelector('#save').disabled")
+        scorer.click("#absent-a53")
+        scorer.until("!document.querySelector('#save').disabled")
+        scorer.click("#save")
+        scorer.until("!!document.querySelector('#waiting')")
+        scorer.click("#tab-office")
+        scorer.click("section[data-key=cup] button.bad")
+        scorer.choose("yes")
+        scorer.until("!!document.querySelector('section[data-key=cup] button.main')")
+        scorer.click("#tab-settings")
+        scorer.until("!!document.querySelector('#waiting')")
+        self.assertNotIn("keeps this office", scorer.text("#waiting"))
+        self.assertEqual(scorer.text("#waiting button"), "Open the office")
+        scorer.click("#waiting button")
+        scorer.until("document.querySelector('dialog[open] h2')?.textContent === 'Is that right?'")
+        scorer.choose("yes")
+        scorer.until("!document.querySelector('#waiting') && !!document.querySelector('#save')")
+        self.assertIn("absent = a53\n", self.text("cup", "series.ini"))
+        self.need_no_faults()
+
 
 class EntriesPage(WebTrial):
     """A boat's names are put right, and a boat that was entered by mistake is taken out."""
@@ -94,6 +119,7 @@ class EntriesPage(WebTrial):
         scorer.click("#correct-names")
         scorer.click(f"dialog button[data-sail={SAILS[0]}]")
         scorer.until("!!document.querySelector('dialog input[name=name]')")
+        self.assertEqual(scorer.text("dialog[open] h2"), "Correct the entry list · GBR 101")
         was = scorer.run("document.querySelector('dialog input[name=name]').value")
         scorer.type("dialog input[name=name]", "Kestrels")
         scorer.choose("yes")

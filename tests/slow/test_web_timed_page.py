@@ -42,6 +42,7 @@ class TimedCorrections(WebTrial):
         one is asked for again: 3,960 s x 0.900, 4,200 s x 0.8."""
         self.write(SHEET, "cup", "times", "race-1.csv")
         scorer = self.scorer_of(1, 3)
+        self.assertEqual(scorer.text("#undo"), "Undo")
         self.assertEqual(scorer.texts(".order td.time"), ["15:05:00", "15:00:00", "14:48:01"])
         self.assertEqual(self.point(scorer, "GBR7"), ["time", "strike", "code", ""])
         scorer.choose("time")

@@ -72,6 +72,50 @@ class TwoTimed(TimedTrial):
         phone.until(f"{TITLE} === 'Folkboats: Start of race 1'")
         self.need_no_faults()
 
+    def test_in_the_order_of_taps(self) -> None:
+        """Finishers of two classes are in the order in which they came, before the start of one is given and after it."""
+        phone = self.phone()
+        for name in ("cup", "lev"):
+            self.race(phone, name)
+        taps = [("lev", "GBR101"), ("cup", "NED80"), ("lev", "NED12"), ("cup", "GBR33"), ("lev", "GBR33")]
+        for name, sail in taps:
+            phone.tap(sail, name)
+        came, rows = [f"{name} {sail}" for name, sail in taps], "[...document.querySelectorAll('#list li')].map(row => row.dataset.key)"
+        self.settle(phone)
+        phone.until(f"document.querySelectorAll('#list li').length === {len(taps)}")
+        self.assertEqual(phone.run(rows), came)
+        self.assertEqual(phone.count("#list li b:empty"), 0)
+        self.begun(phone, "00:00:00", "Folkboats: Start of race 1")
+        phone.until("!document.querySelector('#list').textContent.includes('in the sheet only')")
+        self.assertEqual(phone.run(rows), came)
+        self.need_no_faults()
+
+    def test_of_one_second(self) -> None:
+        """Boats of one second are in the order of their taps, with a start and without one."""
+        phone = self.phone()
+        for elapsed in ("null", "3600"):
+            rows = ", ".join(f"{sail}: {{finish: '15:00:00', code: '', elapsed: {elapsed}}}" for sail in ("GBR33", "NED80", "SWE2"))
+            race = f"{{at: {{GBR33: 1700, NED80: 1100, SWE2: 1400}}, sheet: {{start: '', rows: {{{rows}}}}}}}"
+            order = f"import('/office/static/race-view.js').then(({{atTheLine}}) => atTheLine({race}).order.join())"
+            self.assertEqual(phone.run(order), "NED80,SWE2,GBR33", elapsed)
+        self.need_no_faults()
+
+    def test_which_class(self) -> None:
+        """A sail that isn't read needs one class alone: the page names the button that does it."""
+        phone = self.phone()
+        for name in ("cup", "lev"):
+            self.race(phone, name)
+        phone.until("!document.querySelector('#unread').disabled")
+        phone.click("#unread")
+        phone.until("document.querySelector('#said').textContent === 'Which class? First press the race number of the other one, and “not sailing”.'")
+        phone.click("#races [data-key=cup]")
+        phone.until(ASKED)
+        self.assertEqual(phone.text("dialog[open] [data-value=none]"), "not sailing")
+        phone.choose("none")
+        phone.click("#unread")
+        phone.until("document.querySelector('#list li.unread')?.innerText.includes('?1')")
+        self.need_no_faults()
+
     def test_one_window(self) -> None:
         """A finger that presses again while a part of the page is still fetched opens one window."""
         phone = self.phone()
@@ -165,6 +209,15 @@ class TwoTimed(TimedTrial):
 
 
 class Desk(TimedTrial):
+    def test_without_a_start(self) -> None:
+        """Why a finisher is in the sheet alone is a sentence of its own."""
+        phone, scorer = self.phone(), self.device("scorer", "Bea’s laptop")
+        self.race(phone, "cup")
+        phone.tap("GBR33")
+        scorer.until("!!document.querySelector('#in-sheet')")
+        self.assertRegex(scorer.text("#in-sheet"), "^In the sheet, and not in the journal yet:\n\nHer start isn’t recorded, or is after her finish.\n")
+        self.need_no_faults()
+
     def test_a_start_alone(self) -> None:
         """The head of a race has its start. A race that has a start alone can be abandoned, and not be scored."""
         phone, scorer = self.phone(), self.device("scorer", "Bea’s laptop")
@@ -176,6 +229,33 @@ class Desk(TimedTrial):
         scorer.choose("yes")
         phone.until("document.querySelector('#start').textContent === 'Start'")
         self.assertNotIn("00:00:00", "".join(self.rows("cup")))
+        self.need_no_faults()
+
+    def test_places_of_an_abandoned_race(self) -> None:
+        """A place that a phone keeps is named when its race is abandoned, and goes: it is none of the resail, and nobody is asked
+        about it any more."""
+        phone, scorer = self.phone(), self.device("scorer", "Bea’s laptop")
+        self.race(phone, "cup")
+        self.begun(phone, "00:00:00", "Folkboats: Start of race 1")
+        phone.click("#unread")
+        phone.until("document.querySelector('#list li.unread')?.innerText.includes('?1')")
+        phone.tap("GBR33")
+        self.settle(phone)
+        scorer.until("document.querySelectorAll('.order tbody tr').length === 1")
+        scorer.click("#abandon")
+        scorer.until("document.querySelector('dialog[open]')?.textContent.includes('Ann’s phone (1): taps that the office hasn’t got yet. Places')")
+        scorer.choose("yes")
+        scorer.until("document.querySelector('dialog[open]')?.textContent.includes('Abandon race 1?')")
+        scorer.choose("yes")
+        phone.until("!document.querySelector('#list li') && document.querySelector('#start').textContent === 'Start'")
+        self.begun(phone, "00:00:01", "Folkboats: Start of race 1")
+        phone.tap("GBR33")
+        self.settle(phone)
+        self.assertEqual(phone.run("[...document.querySelectorAll('#list li')].map(row => row.dataset.key)"), ["cup GBR33"])
+        scorer.until("document.querySelectorAll('.order tbody tr').length === 1 && !document.querySelector('#score').disabled")
+        scorer.click("#score")
+        scorer.until(ASKED)
+        self.assertNotIn("Ann’s phone", scorer.text("dialog[open]"))
         self.need_no_faults()
 
     def test_a_sheet_meanwhile(self) -> None:

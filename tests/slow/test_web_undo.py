@@ -3,6 +3,7 @@ from __future__ import annotations
 
 import unittest
 
+import helpers
 import web_devices
 from devices import Device
 from web_office import WebTrial
@@ -74,10 +75,25 @@ class Undo(WebTrial):
         self.refused(scorer, "A correction of several lines")
         scorer.click("#abandon")
         scorer.choose("yes")
-        self.is_last(scorer, "Undo ABANDON 1")
-        self.send(scorer, "undo")
+        scorer.until("!document.querySelector('.order')")
+        self.is_last(scorer, "Undo")
+        self.refused(scorer, "Race 1 was taken away by 2 lines")
+
+    def test_entered(self) -> None:
+        """A late entry isn't offered for undo, neither while she is in the journal nor once she was taken out."""
+        scorer = self.device("scorer", "Bea’s laptop")
+        self.send(scorer, "mark 1 7 dnf")
+        self.is_last(scorer, "Undo MARK 1 GBR7 DNF")
+        self.send(scorer, "enter aus 333")
         scorer.choose("yes")
-        scorer.until("document.querySelector('#alarm').textContent.startsWith('Race 1 was taken away by 2 lines')")
+        self.is_last(scorer, "Undo")
+        self.refused(scorer, "AUS 333 stays while the office is open")
+        scorer.click("#take-out")
+        scorer.click("dialog button[data-sail=AUS333]")
+        scorer.choose("yes")
+        helpers.until("a journal without her", lambda: "AUS333" not in self.text("cup", "journal.txt"))
+        self.is_last(scorer, "Undo")
+        self.need_no_faults()
 
 
 if __name__ == "__main__":

@@ -67,7 +67,7 @@ function flipRounded(name, sail) {
 export function tapUnread() {
   const open = sailing(), name = open.length === 1 ? open[0].class : page.mode.class;
   if (!name) {
-    say(text(open.length ? "finish.whichClass" : "finish.chooseRace"));
+    say(open.length ? text("finish.whichClass", {off: text("finish.notSailing")}) : text("finish.chooseRace"));
     return;
   }
   if (isBounce("?")) return;

@@ -35,6 +35,14 @@ export function lineOf({race, sail, what, takes}) {
   return /^\d{1,3}([.,]\d)?$/.test(takes) ? `REDRESS ${race} ${sail} ${dotted(takes)}` : "";
 }
 
+// Whether an average as redress has no race to count: she keeps her own score then. One of the races before counts those alone,
+// and none counts a race in which she has an average herself.
+export function isWithoutRaces({race, sail, what}, races) {
+  const isOfIt = number => what === "ALL" ? number !== race : number < race;
+  const isLeft = ([number, {counts, redress}]) => counts && isOfIt(Number(number)) && !["ALL", "PRIOR"].includes(redress[sail]);
+  return ["ALL", "PRIOR"].includes(what) && !Object.entries(races).some(isLeft);
+}
+
 // What can be reopened: {number, sail, code, how} for what the jury gave, and for penalties
 export function heldDecisions(races) {
   const found = [];

@@ -13,7 +13,7 @@ import {remarkSentences, troubleWords} from "./remark-words.js";
 import {beginDesk, called, drawClasses, here, send, state} from "./desk.js";
 import {findBoat} from "./boat-finder.js";
 import {lastChange, standingTable} from "./standing.js";
-import {LINES, OTHERS, headOf, heldDecisions, isOther, lineOf, takesOf, usualOf, whatOf} from "./jury-decisions.js";
+import {LINES, OTHERS, headOf, heldDecisions, isOther, isWithoutRaces, lineOf, takesOf, usualOf, whatOf} from "./jury-decisions.js";
 import {keptPart, lackingPart, verdictWords} from "./jury-kept.js";
 import {previewBox} from "./jury-preview.js";
 
@@ -185,6 +185,7 @@ function draw() {
 
 function verdictOf({verdict}) {
   if (form.back) return text("jury.isTakenBack", {code: form.back.split(" ")[3]});
+  if (isWithoutRaces(form, state().races)) return text("jury.noRaceLeft");
   return form.out ? text("jury.isTakenOut") : verdict?.kind ? verdictWords(verdict) : "";
 }
 

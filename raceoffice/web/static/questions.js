@@ -14,6 +14,7 @@ const VARIANTS = {
   "correction": values => values.declared ? `.${values.declared}` : "",
   "announce": values => values.state === "final" ? "" : `.${values.state}`,
   "take-over": values => values.since ? ".since" : "",
+  "new-rules": values => values.isReopened ? ".reopen" : "",
   "abandon": values => values.lines.length ? "" : ".places",
   "others-recorded": values => (values.others.length ? "" : ".changed") + (values.ahead ? ".ahead" : "") + (values.untimed?.length ? ".untimed" : ""),
 };

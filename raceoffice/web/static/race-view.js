@@ -17,11 +17,12 @@ export const lastBoat = race => race.order.at(-1)?.[0] ?? "";
 // What a boat holds: her code and her penalties
 export const heldBy = (race, sail) => [race.codes[sail], ...(race.penalties[sail] ?? [])].filter(Boolean);
 
-// A race by corrected time as it was at the line: its order by the clock, codes and elapsed times from its sheet.
+// A race by corrected time as it was at the line: its order by the clock, of one second by their taps, codes and elapsed
+// times from its sheet.
 export function atTheLine(race) {
   const rows = Object.entries(race?.sheet?.rows ?? {}), finished = rows.filter(([, row]) => row.finish);
-  const time = row => row.elapsed ?? row.finish;
-  finished.sort(([, one], [, other]) => time(one) < time(other) ? -1 : 1);
+  const time = row => row.elapsed ?? row.finish, at = sail => race.at?.[sail] ?? 0;
+  finished.sort(([sail, one], [next, other]) => time(one) === time(other) ? at(sail) - at(next) : time(one) < time(other) ? -1 : 1);
   return {...emptyRace(), ...race, order: finished.map(([sail]) => [sail]), start: race?.sheet?.start ?? "", waiting: waitingIn(race),
     codes: {...race?.codes, ...Object.fromEntries(rows.filter(([, row]) => row.code).map(([sail, row]) => [sail, row.code]))},
     elapsed: Object.fromEntries(finished.map(([sail, row]) => [sail, row.elapsed]))};

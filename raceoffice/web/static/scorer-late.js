@@ -81,7 +81,7 @@ export async function correctNames(name) {
   const found = await listOf(name);
   if (found.status !== 200) return say(troubleWords(found), true);
   const was = found.rows[sail] ?? {}, fields = nameFields(found.columns, was);
-  const done = await choose(withClass(text("scorer.nameHer", {sail: spaced(sail)}), name), [text("scorer.namesMean"), ...shown(fields)],
+  const done = await choose(withClass(`${text("scorer.correctNames")} · ${spaced(sail)}`, name), [text("scorer.namesMean"), ...shown(fields)],
     [button("", text("common.cancel")), button("yes", text("scorer.correctThem"), "main")]);
   const names = valuesOf(fields), others = Object.keys(names).filter(key => names[key] !== (was[key] ?? ""));
   if (done !== "yes" || !others.length) return;

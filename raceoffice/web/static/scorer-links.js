@@ -141,7 +141,8 @@ export async function openAsking(what, name) {
       break;
     }
     hush();
-    const answer = await agrees(name, done.question, done.said, what === "open" && done.question.kind === "new-rules" ? "no" : "");
+    const asked = {...done.question, values: {...done.question.values, isReopened: what === "reopen"}};
+    const answer = await agrees(name, asked, done.said, what === "open" && asked.kind === "new-rules" ? "no" : "");
     if (!answer) break;
     (answer === "yes" ? agreed : denied).push(agreedOf(done.question));
   }

@@ -126,14 +126,24 @@ async function reopen(name, again) {
   again();
 }
 
+async function openClosed(name, again) {
+  await openAsking("open", name);
+  again();
+}
+
+// What brings what was saved into force
+function openingPart(name, found, again) {
+  const button = (id, done, key) => element("div", {class: "acts"}, element("button", {type: "button", id, onclick: () => done(name, again)}, text(key)));
+  if (found.is_kept_here) return button("reopen", reopen, "settings.reopen");
+  return found.is_open ? element("p", {class: "waits"}, text("settings.otherWindow")) : button("open-closed", openClosed, "office.open");
+}
+
 // What was saved, and doesn't hold yet
 function waitingPart(name, found, again) {
   if (!found.waiting.length) return null;
   return element("section", {class: "step", id: "waiting"}, element("h2", {}, text("settings.waiting")),
     element("p", {}, text("settings.atOpening", {what: named(found.waiting)})),
-    element("p", {class: "soft"}, text("settings.opened", {rules: rulesWords(found.opened)})),
-    found.is_kept_here ? element("div", {class: "acts"}, element("button", {type: "button", id: "reopen", onclick: () => reopen(name, again)}, text("settings.reopen")))
-      : element("p", {class: "waits"}, text("settings.otherWindow")));
+    element("p", {class: "soft"}, text("settings.opened", {rules: rulesWords(found.opened)})), openingPart(name, found, again));
 }
 
 // Shows the settings of a class in a part of the page. `known` is what the office said of them just now, if it did; `left`
