@@ -23,6 +23,13 @@ MOST, QUOTED = 100, 60
 LIKE_A_SPACE = "\u2423"
 # Unicode 3.2, whose data every Python has. What a page says follows these alone: each Python has other new signs besides.
 OF_ALL = unicodedata.ucd_3_2_0
+# Signs of Unicode 14 to 16 that stand for others, or that have an order behind a letter. Each Python from 3.10 on has the same
+# of all older ones.
+NEWER = re.compile("[\u0897-\u089f\u08ca-\u08d2\u0c3c\u1715\u1ac1-\u1ace\u1dfa\ua7f2-\ua7f4\U000105c0-\U000105ff"
+                   "\U00010781-\U00010785\U00010787-\U000107b0\U000107b2-\U000107ba\U00010d40-\U00010d8f"
+                   "\U00010efc-\U00010eff\U00010f82-\U00010f85\U00011070\U00011380-\U000113ff\U00011f41\U00011f42"
+                   "\U00016100-\U0001613f\U00016d40-\U00016d7f\U0001cc00-\U0001cebf\U0001e030-\U0001e06d\U0001e08f"
+                   "\U0001e2ae\U0001e4ec-\U0001e4ef\U0001e5d0-\U0001e5ff]")
 # It calls this one a dash.
 SOFT_HYPHEN = "\u00ad"
 
@@ -95,23 +102,33 @@ def number_of(sign: str) -> str:
     return f"U+{ord(sign):04X}"
 
 
+def is_newer(sign: str) -> bool:
+    """Whether some Pythons know that a sign stands for others, or has an order behind a letter, and some don't."""
+    return NEWER.match(sign) is not None
+
+
 def in_one_form(text: str) -> str:
     """A text in which signs that mean the same are the same (NFKD). Those that not every Python knows stay as they are. The
     tools of Python would take the square of the number of marks in a row."""
-    parted = text.translate({ord(sign): OF_ALL.normalize("NFKD", sign) for sign in set(text) if is_known(sign)})
-    marks = "".join(filter(OF_ALL.combining, set(parted)))
+    parted = text.translate({ord(sign): unicodedata.normalize("NFKD", sign) for sign in set(text) if not is_newer(sign)})
+    marks = "".join(filter(place_of_mark, set(parted)))
     return re.sub(f"[{re.escape(marks)}]{{2,}}", in_order, parted) if marks else parted
 
 
 def in_order(marks: re.Match[str]) -> str:
     """Marks in the order that Unicode gives them."""
-    return "".join(sorted(marks[0], key=OF_ALL.combining))
+    return "".join(sorted(marks[0], key=place_of_mark))
+
+
+def place_of_mark(sign: str) -> int:
+    """The place of a mark among those behind a letter; 0 for what is no mark, or not in every Python."""
+    return 0 if is_newer(sign) else unicodedata.combining(sign)
 
 
 def is_composed(name: str) -> bool:
     """Whether the name of a file is as short as one that means the same can be (NFKC)."""
-    return "".join(OF_ALL.normalize("NFKC", "".join(part)) if known else "".join(part)
-                   for known, part in itertools.groupby(name, is_known)) == name
+    return "".join("".join(part) if newer else unicodedata.normalize("NFKC", "".join(part))
+                   for newer, part in itertools.groupby(name, is_newer)) == name
 
 
 class Written(str):

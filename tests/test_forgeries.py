@@ -355,8 +355,11 @@ class Forgeries(ForgedPages):
         views = self.called(("a", "Zo\u00eb Kiel"), ("b", "Zoe\u0308 Kiel"), ("c", "Zo\u00eb \u212aiel"), ("d", "Zoe Kiel"))
         self.assertEqual(labels_of(views), ["Zo\u00eb Kiel (a)", "Zoe\u0308 Kiel (b)", "Zo\u00eb \u212aiel (c)", "Zoe Kiel"])
         self.assertEqual(labels_of(self.called(("\u00fc", "x"), ("u\u0308", "x"))), ["x (\u00fc)", "x (u%CC%88)"])
-        # Not each Python knows that this sign means an A.
-        self.assertEqual(labels_of(self.called(("a", "Star \U0001f130"), ("b", "Star A"))), ["Star \U0001f130", "Star A"])
+        # Each Python knows that this sign means an A, this mark is in either order, and not each that that sign means a letter.
+        for one, other in (("Star \U0001f130", "Star A"), ("Ho\u0358\u0300", "H\u00f2\u0358"), ("\ufa70", "\u4e26")):
+            self.assertEqual(labels_of(self.called(("a", one), ("b", other))), [f"{one} (a)", f"{other} (b)"])
+        newer = ["Star \U0001e030", "Star \u0430"]
+        self.assertEqual(labels_of(self.called(("a", newer[0]), ("b", newer[1]))), newer)
         status, said = self.said(notice(views))
         self.assertEqual(status, 0, said)
 

@@ -25,6 +25,8 @@ from raceoffice.terminal import sentence
 
 # Seconds that an office may take for its answer.
 PATIENCE = 5.0
+# The last second of the year 9998, since 1970.
+LATEST = 253_370_764_799
 
 
 def now() -> datetime.datetime:
@@ -219,7 +221,8 @@ class ResultsSource:
 
     def changed_at(self, sheet: Sheet, standing: Standing, is_seen: bool) -> datetime.datetime:
         """When the results changed last, as far as the log and the files know. If a change is seen just
-        now that isn't in the log, it is now. A file that is dated before 1970 is as of then: no page has an earlier moment."""
+        now that isn't in the log, it is now. A file that is dated before 1970, or after 9998, is as of then: no page has an
+        earlier moment, or a later one."""
         logged, state = self.folder.logged(), self.settings.state
         entry = time_of_entry(logged, sheet.journal, last_scored(list(sheet.journal), standing.races))
         notice = time_of_notice(logged, state)
@@ -227,7 +230,7 @@ class ResultsSource:
         files = [] if entry or is_seen else [self.folder.journal]
         if state != "provisional" and not notice:
             files.append(self.folder.file(settings.NAME))
-        times += [datetime.datetime.fromtimestamp(max(0, int(os.path.getmtime(path))), datetime.timezone.utc)
+        times += [datetime.datetime.fromtimestamp(min(max(0, int(os.path.getmtime(path))), LATEST), datetime.timezone.utc)
                   for path in files if os.path.exists(path)]
         if is_seen and not entry:
             times.append(now())

@@ -27,6 +27,8 @@ JOURNAL, ENTRIES, SERIES = 1 << 20, 8192, 100
 BLOCK = 12 << 20
 # The most characters that its names, settings and decisions have as a page has them. Those of 500 boats have a hundredth.
 WRITTEN = 4 << 20
+# The most characters that the titles, classes and clubs of its series have together.
+CALLED = 200_000
 # A sail as pages show it. A small letter may look as another's capital.
 SHOWN = re.compile("[A-Z0-9-]+(?: [A-Z0-9-]+)*")
 PROGRAM = re.compile("(?:[0-9a-f]{64})?")
@@ -225,6 +227,8 @@ def need_size(kept: Kept) -> None:
     """Unsure if it would take too long to write again what a page carries."""
     texts = [text for carried in kept.series for part in (carried.settings.values(), carried.decisions, *carried.boats)
              for text in part]
+    if sum(len(carried.settings[key]) for carried in kept.series for key in ("title", "class", "club")) > CALLED:
+        raise Unsure(f"what its series are called has more than {CALLED:,} characters, which would take too long to tell apart")
     if sum(len(html.escape(text)) for text in texts) > WRITTEN:
         raise Unsure(f"its names, settings and decisions have more than {WRITTEN:,} characters as HTML, which would "
                      "take too long to write again")
