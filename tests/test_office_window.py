@@ -212,6 +212,18 @@ class Stopped(Windows):
         again.press()
         self.assertEqual(again.rest()[1], 0)
 
+    def test_socket_removed(self) -> None:
+        """So it does if somebody has removed the socket of a program without a window."""
+        window = self.open()
+        window.process.kill()
+        window.process.wait()
+        os.remove(self.path("office", "race.sock"))
+        again = self.window("open", "cup")
+        again.read(r"Take it over\? \[Y/n\] $")
+        again.say("y", "The office is open")
+        again.press()
+        self.assertEqual(again.rest()[1], 0)
+
     def taken_over(self) -> office_process.OfficeProcess:
         """A running office, as the window sees it that takes it over."""
         found = office_process.OfficeProcess(Folder(self.path()))

@@ -110,6 +110,36 @@ class Faults(helpers.Series):
         self.assertTrue(office.is_there())
         self.closed(office)
 
+    def test_opened_while_somebody_leaves(self) -> None:
+        """Nor does it matter that somebody has a seat still when that is wanted."""
+        office, link = self.opened(), Link(self.folder.socket)
+        threads = [threading.Thread(target=office.close, daemon=True),
+                   threading.Thread(target=office.open, args=(lambda _: True,), daemon=True)]
+        threads[0].start()
+        helpers.until("the closing", lambda: not office.is_there())
+        threads[1].start()
+        link.close()
+        for thread in threads:
+            thread.join(helpers.PATIENCE)
+        self.assertTrue(office.is_there())
+        self.closed(office)
+
+    def test_named_while_it_opens(self) -> None:
+        """Names and a second folder that are given while an office is being opened stay."""
+        office = self.opened()
+        self.closed(office)
+
+        def looked(folder: Folder) -> str:
+            text = self.text("cup", "series.ini").replace("title = Autumn Cup", "title = Winter Cup")
+            self.write(text.replace("copy = ", "copy = ../stick"), "cup", "series.ini")
+            return disk_fault(folder)
+        with mock.patch.object(kept_office, "disk_fault", looked):
+            self.assertTrue(office.open(lambda _: True))
+        self.assertEqual((self.folder.settings.title, self.folder.settings.copy), ("Winter Cup", "../stick"))
+        assert office.keeping
+        self.assertEqual(office.keeping.folder.settings.copy, "../stick")
+        self.closed(office)
+
     def test_opened_again(self) -> None:
         """An office that has gone and can't be opened is tried again and again, and that is said, until it can be."""
         program, away = self.program_of_its_own(), os.path.join(self.here, "away")
@@ -168,7 +198,7 @@ class Faults(helpers.Series):
         with mock.patch.object(KeptOffice, "taken_out", closed_meanwhile):
             office.take_out("GBR101", "Bea", lambda _: True)
         self.assertFalse(office.is_there())
-        self.assertTrue(office.open(lambda _: True))
+        self.assertTrue(office.open_again_with_settings(lambda _: True))
         office.end()
         self.assertFalse(office.open(lambda _: True))
         self.assertFalse(office.is_there())

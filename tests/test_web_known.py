@@ -262,7 +262,7 @@ class PutOut(OnWater):
             self.assertEqual(self.status(device, path, role="FINISH", line="FINISH 1 GBR7"), 401, path)
 
     def test_before_its_turn(self) -> None:
-        """What waits for others of its class isn't done any more: a tap, a correction, a decision."""
+        """What waits for others of its class isn't done any more: a boat that is taken out, a tap, a correction, a decision."""
         scorer, jury, statuses = self.come("SCORER"), self.come("JURY"), dict[str, int]()
         self.assertEqual(self.status(scorer, "line/cup", line="FINISH 1 GBR7"), 200)
         before, noted = self.text("cup", "journal.txt"), Noted(self.room.lock)
@@ -270,7 +270,9 @@ class PutOut(OnWater):
         def ask(device: gates.Device, path: str, **values: object) -> None:
             statuses[path] = self.status(device, path, **values)
 
-        threads = [threading.Thread(target=ask, args=(self.eve, "line/cup"), kwargs={"line": "FINISH 1 GBR33"}),
+        other = self.come("SCORER")
+        threads = [threading.Thread(target=ask, args=(other, "remove/cup"), kwargs={"sail": "GBR33"}),
+                   threading.Thread(target=ask, args=(self.eve, "line/cup"), kwargs={"line": "FINISH 1 GBR33"}),
                    threading.Thread(target=ask, args=(scorer, "correct/cup"), kwargs={"lines": ["STRIKE 1 GBR7"]}),
                    threading.Thread(target=ask, args=(jury, "decide/cup"), kwargs={"line": "MARK 1 GBR7 DSQ", "lines": ["JURY MARK 1 GBR7 DSQ"]})]
         with mock.patch.object(self.room, "lock", noted), mock.patch("raceoffice.web.room.PATIENCE", helpers.PATIENCE):
@@ -278,11 +280,11 @@ class PutOut(OnWater):
                 for thread in threads:
                     thread.start()
                     self.assertTrue(noted.waiting.acquire(timeout=helpers.PATIENCE))
-                for device in (self.eve, scorer, jury):
+                for device in (self.eve, scorer, jury, other):
                     self.gate.revoke(device.mark)
             for thread in threads:
                 thread.join()
-        self.assertEqual(statuses, {"line/cup": 401, "correct/cup": 401, "decide/cup": 401})
+        self.assertEqual(statuses, dict.fromkeys(("remove/cup", "line/cup", "correct/cup", "decide/cup"), 401))
         self.assertEqual(self.text("cup", "journal.txt"), before)
 
 

@@ -300,15 +300,19 @@ class Late(OnWater):
 
     def test_own_places(self) -> None:
         """A phone without a connection tapped IRL5 at 4 s, `?` at 7 s and GBR7 at 10 s; another one tapped IRL5 at 13 s. However
-        late ?1 is for the other, she is ahead of GBR7, and of the next `?` of her own phone."""
-        def at(second: float, name: str, line: str, **more: Any) -> Any:
-            return self.do("FINISH", name, line, at=int(1_000_000 + 1000 * second), **more)
-        at(0, "Ann", "FINISH 1 NED12", behind="")
-        at(13, "Bob", "FINISH 1 IRL5", behind="NED12")
-        at(16, "Bob", "FINISH 1 FRA9", behind="IRL5")
-        for second, line, behind in ((7, "? 1", "IRL5"), (10, "FINISH 1 GBR7", "IRL5"), (11, "? 1", "GBR7")):
-            at(second, "Ann", line, behind=behind, by_clock=True)
-        self.assertEqual(self.seen(1), [["NED12"], ["IRL5"], ["?1"], ["GBR7"], ["?2"], ["FRA9"]])
+        late ?1 is for the other, she is ahead of GBR7, and of the next `?` of her own phone, also once somebody knows her."""
+        for race, first in ((1, "?1"), (2, "GBR33")):
+            def at(second: float, name: str, line: str, **more: Any) -> Any:
+                return self.do("FINISH", name, line.format(race=race), at=int(1_000_000 + 1000 * second), **more)
+            at(0, "Ann", "FINISH {race} NED12", behind="")
+            at(13, "Bob", "FINISH {race} IRL5", behind="NED12")
+            at(16, "Bob", "FINISH {race} FRA9", behind="IRL5")
+            at(7, "Ann", "? {race}", behind="IRL5", by_clock=True)
+            if first != "?1":
+                at(17, "Bob", f"?1 {race} {first}")
+            at(10, "Ann", "FINISH {race} GBR7", behind="IRL5", by_clock=True)
+            at(11, "Ann", "? {race}", behind="GBR7", by_clock=True)
+            self.assertEqual(self.seen(race), [["NED12"], ["IRL5"], [first], ["GBR7"], ["?2"], ["FRA9"]])
 
     # Another race
 

@@ -343,11 +343,11 @@ class Roles(unittest.IsolatedAsyncioTestCase):
         """The cookie of a device that comes."""
         return self.gate.enter(Request("POST", "/", {}, "127.0.0.1"), role, self.keys[role], name)[0].partition(";")[0]
 
-    def ask(self, role: str, cookie: str) -> asyncio.Task[object]:
+    def ask(self, role: str, cookie: str, name: str = "cup") -> asyncio.Task[object]:
         """A request that writes."""
         fields = {"cookie": cookie, "host": "127.0.0.1", "origin": "http://127.0.0.1"}
         fields["x-token"] = self.gate.token(Request("POST", "/", fields, ""), role)
-        answer = self.routes.answer(Request("POST", f"/office/{role.lower()}/line/cup", fields, "127.0.0.1"))
+        answer = self.routes.answer(Request("POST", f"/office/{role.lower()}/line/{name}", fields, "127.0.0.1"))
         self.asked.append(asyncio.get_running_loop().create_task(answer))
         return self.asked[-1]
 
@@ -377,6 +377,27 @@ class Roles(unittest.IsolatedAsyncioTestCase):
         self.go_on.set()
         await asyncio.gather(*self.asked)
         self.assertEqual(len(self.begun), 122)
+
+    async def test_two_classes(self) -> None:
+        """What a device asks of a class that hangs holds up nothing that it asks of another."""
+        cookie = self.come("FINISH", "Ann")
+        self.routes.office.classes = {"cup": mock.Mock(), "fleet": mock.Mock()}
+        for name, count in (("cup", 9), ("fleet", 1)):
+            for _ in range(count):
+                self.ask("FINISH", cookie, name)
+        await self.until("what is asked of each", lambda: len(self.begun) == 4)
+        self.go_on.set()
+        await asyncio.gather(*self.asked)
+
+    async def test_no_thread(self) -> None:
+        """A turn that finds no thread, as the system has none, is given back."""
+        cookie = self.come("JURY", "Eve")
+        with mock.patch("raceoffice.web.workers.ThreadPoolExecutor.submit", side_effect=RuntimeError("can't start new thread")):
+            for _ in range(5):
+                with self.assertRaises(RuntimeError):
+                    await self.ask("JURY", cookie)
+        self.asked.clear()
+        await asyncio.wait_for(self.ask("JURY", cookie), helpers.PATIENCE)
 
     async def test_one_device(self) -> None:
         """Of one device a few requests are begun, and the rest after them, also if some were given up meanwhile; another

@@ -116,10 +116,11 @@ class OfficeProcess:
         if self.without_window()[0] != number:
             raise Trouble(remark("office-opened-anew"))
         self.number = number
-        if not self.lets_in():
+        try:
+            self.link = self.folder.link()
+        except Gone:
             self.stop()
             return False
-        self.link = self.folder.link()
         self.note_pid()
         return True
 

@@ -204,7 +204,6 @@ class Gate:
             if before := self.known(request, role):
                 # It comes again.
                 self.devices.pop(before.mark, None)
-                cookie_name = next(name for name, _, mark in cookies_of(request, role) if mark == before.mark)
             self.make_room(role)
             own = [mark for _, _, mark in cookies_of(request, role)]
             device = Device(hashed(cookie), role, self.free_name(plain_name(name) or role.lower(), own), now, now, 0,

@@ -78,10 +78,11 @@ class KeptOffice:
     def copy_to(self, path: str) -> None:
         """Makes a folder the second one at once, for an office that this process keeps or that is closed. Another window's has
         its own."""
-        with self.lock:
-            kept = [self.keeping.folder] if self.keeping else []
-            for folder in [self.folder, *kept] if kept or not self.is_there() else []:
-                folder.settings = dataclasses.replace(folder.settings, copy=path)
+        keeping = self.keeping
+        if keeping:
+            keeping.folder.settings = dataclasses.replace(keeping.folder.settings, copy=path)
+        if keeping or not self.is_there():
+            self.folder.settings = dataclasses.replace(self.folder.settings, copy=path)
 
     def second_trouble(self) -> str:
         """Why an office that this process keeps has no second copy; empty if it has one."""
@@ -99,7 +100,7 @@ class KeptOffice:
         """Opens the office, joins one that a window has, or takes over one whose window has gone; whether one
         is open then. One that is opened `as_it_was` goes by the rules in force, and nobody is asked about others. One that
         is opened again by itself stays closed if somebody has closed it meanwhile."""
-        if self.is_shut():
+        if self.is_shut() and not self.is_asked_to_close:
             return self.open_again_with_settings(ask)
         with self.lock:
             if self.is_asked_to_close:
@@ -129,8 +130,16 @@ class KeptOffice:
         try:
             return self.is_kept(fresh, ask)
         finally:
-            # Rules that nobody has agreed to wait, and another window's office has its own.
-            self.folder.settings = settings_in_force(fresh)
+            self.take_settings(fresh)
+
+    def take_settings(self, fresh: Folder) -> None:
+        """Takes over the settings after an opening that began with those of a fresh folder. Rules that nobody has agreed to
+        wait, and another window's office has its own; names and the second folder may have been given meanwhile."""
+        with contextlib.suppress(Trouble):
+            fresh = Folder(fresh.path)
+        self.folder.settings = settings_in_force(fresh)
+        if self.keeping:
+            self.copy_to(fresh.settings.copy)
 
     def is_kept(self, folder: Folder, ask: Ask) -> bool:
         """Whether the office is open with the settings as this folder has them."""
@@ -317,6 +326,8 @@ class KeptOffice:
             raise NotSent(*wrong)
         asked = question_of_rules(fresh)
         as_it_was = bool(asked and not ask(asked))
+        # Somebody wants it open, whoever has closed it before.
+        self.is_left.clear()
         self.close(comes_back=True)
         return self.come_back(ask, as_it_was)
 

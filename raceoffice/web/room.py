@@ -497,9 +497,11 @@ class Room:
         moments, history, race = self.register.moments_now(self.facts.sheet.journal), session.history, order.number
         marks = self.times_of_places(history, race)
         boats = {sail: at for (of, sail), at in moments.items() if of == race}
-        placed = {sail: marks[mark] for sail, mark in history.boats_in_places(race).items() if mark in marks}
+        placed = {sail: mark for sail, mark in history.boats_in_places(race).items() if mark in marks}
+        in_places = marks | {sail: marks[mark] for sail, mark in placed.items()}
         own = self.register.places_by(session.name, race)
-        return as_placed(order.order, boats | placed | marks) | {mark: at for mark, at in marks.items() if mark in own}
+        return as_placed(order.order, boats | in_places) | {
+            name: at for name, at in in_places.items() if placed.get(name, name) in own}
 
     def times_of_places(self, history: History, race: int) -> dict[str, int]:
         """When each place of a race was kept, by a tap or in a window."""

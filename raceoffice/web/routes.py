@@ -110,8 +110,12 @@ class Routes:
                 return await self.read(request, role.upper(), rest)
             case [role, *rest] if role in PAGES:
                 device = self.gate.check_write(request, role.upper())
-                return await self.in_thread(device.role, device.mark, self.write, request, device.role, device, rest)
+                return await self.in_thread(device.role, self.waiting_for(device, rest), self.write, request, device.role, device, rest)
         raise Wrong(404)
+
+    def waiting_for(self, device: Device, rest: list[str]) -> str:
+        """What requests of a device have to take turns for: those about a class that hangs hold up none about another."""
+        return " ".join([device.mark, *(part for part in rest[1:2] if part in self.office.classes)])
 
     def file(self, name: str) -> tuple[str, bytes]:
         if name not in self.files:
@@ -191,7 +195,7 @@ class Routes:
             return tagged(request, *self.file("worker.js"))
         device = self.gate.device(request, role)
         self.gate.asking.take(device.mark)
-        in_thread = functools.partial(self.in_thread, role, device.mark)
+        in_thread = functools.partial(self.in_thread, role, self.waiting_for(device, rest))
         match rest:
             case ["me"]:
                 self.need_a_class()
@@ -467,6 +471,7 @@ class Routes:
         numbers then, so that what came of each tap is noted while they have their own."""
         sail = plain(boat_names.text_given(request.values(), "sail"))
         one.room.settle()
+        self.gate.need(device)
         copy = one.office.take_out(sail, device.name, asked_of(request))
         one.room.news()
         return reply_of({"copy": copy, "open": one.office.is_there(), "said": one.office.words()})

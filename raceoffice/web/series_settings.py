@@ -55,9 +55,11 @@ def settings_kept(folder: Folder, office: KeptOffice) -> Values:
     text = text_now(folder)
     if wrong := settings.problems(text):
         return {"wrong": remarks_of(wrong), "tag": tag_of(text)}
-    values, is_open = settings.values_of(text), office.is_there()
+    # One that is being closed is opened again once it is closed.
+    is_kept_here, values = office.takes_lines(), settings.values_of(text)
+    is_open = is_kept_here or not office.keeping and office.is_there()
     kept, opened = settings.settings_of(values), settings_in_force(folder)
-    return {"wrong": [], "tag": tag_of(text), "is_open": is_open, "is_kept_here": office.keeping is not None,
+    return {"wrong": [], "tag": tag_of(text), "is_open": is_open, "is_kept_here": is_kept_here,
             "settings": {key: (settings.DEFAULTS | values)[key] for key in GIVEN}, **times_rules(folder),
             "opened": rules_of(opened),
             "waiting": waiting(folder, kept, opened)}

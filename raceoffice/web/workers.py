@@ -41,7 +41,12 @@ class Workers:
             with contextlib.suppress(RuntimeError):
                 loop.call_soon_threadsafe(self.end_turn, name)
 
-        doing = self.pools[role].submit(work)
+        try:
+            doing = self.pools[role].submit(work)
+        except BaseException:
+            # The system has no thread just now.
+            self.end_turn(name)
+            raise
         # A turn lasts as long as its thread takes, also if its connection was given up.
         doing.add_done_callback(end)
         return await asyncio.wrap_future(doing)

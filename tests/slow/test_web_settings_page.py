@@ -99,7 +99,7 @@ class SettingsPage(WebTrial):
         scorer.until("!!document.querySelector('#waiting')")
         self.assertNotIn("keeps this office", scorer.text("#waiting"))
         self.assertEqual(scorer.text("#waiting button"), "Open the office")
-        scorer.click("#waiting button")
+        scorer.click("#open-closed")
         scorer.until("document.querySelector('dialog[open] h2')?.textContent === 'Is that right?'")
         scorer.choose("yes")
         scorer.until("!document.querySelector('#waiting') && !!document.querySelector('#save')")

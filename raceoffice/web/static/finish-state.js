@@ -84,11 +84,12 @@ const seriesOf = name => page.states[name]?.series;
 // By corrected time this device keeps the moment of a sail that wasn't read. `by` is the tap that says who she was. Those
 // of another series that had this name, and those of a race that was abandoned since, aren't shown, nor counted.
 const isAbandoned = ({class: name, race, at}) => at <= (page.states[name]?.abandoned?.[race] ?? 0);
-const isOfAnother = one => one.series && seriesOf(one.class) && one.series !== seriesOf(one.class) || isAbandoned(one);
-const isOfRace = name => one => one.class === name && one.race === page.races[name];
-const momentsOf = name => page.moments.filter(isOfRace(name)).filter(one => !isOfAnother(one));
+const isOfSeries = ({class: name, series}) => !series || !seriesOf(name) || series === seriesOf(name);
+const isShown = one => isOfSeries(one) && !isAbandoned(one);
+const allMomentsOf = name => page.moments.filter(one => one.class === name && one.race === page.races[name] && isOfSeries(one));
+const momentsOf = name => allMomentsOf(name).filter(isShown);
 // How many finishers this device keeps of whom nobody has said who they were
-export const unnamedCount = () => page.moments.filter(one => !one.by && !isOfAnother(one)).length;
+export const unnamedCount = () => page.moments.filter(one => !one.by && isShown(one)).length;
 
 // Each has a key of its own: another tab keeps others. An older page had one for all.
 function keptMoments() {
@@ -117,7 +118,7 @@ addEventListener("storage", ({key, newValue}) => {
 });
 
 export function addMoment(name) {
-  const last = Math.max(0, ...page.moments.filter(isOfRace(name)).map(({mark}) => Number(mark.slice(1))));
+  const last = Math.max(0, ...allMomentsOf(name).map(({mark}) => Number(mark.slice(1))));
   const one = {id: newId(), class: name, series: seriesOf(name), race: page.races[name], mark: `?${last + 1}`, ...moment()};
   noteUndoable({id: one.id, class: name, line: `? ${one.race}`});
   page.moments.push(one);
@@ -126,7 +127,7 @@ export function addMoment(name) {
 
 // Whose a moment was, by a line; nobody's without one. If its race was abandoned meanwhile, the office asks.
 export function endMoment(name, mark, line) {
-  const found = page.moments.filter(isOfRace(name)).findLast(one => one.mark === mark);
+  const found = allMomentsOf(name).findLast(one => one.mark === mark);
   found.by = line ? addTap(name, line, {at: found.at, clock: found.clock}).id : "-";
   keepMoment(found);
 }
