@@ -272,7 +272,9 @@ def answer_to(routes: Routes, sent: Sent) -> tuple[int, Any]:
         if sent.values is None:
             reply: Reply = getattr(routes, sent.rest[0])(*sent.rest[1:-1], [routes.one(sent.rest[-1])])
         else:
-            reply = routes.write(request, sent.role, Device("", sent.role, sent.by, 0, 0), list(sent.rest))
+            now = routes.gate.clock.now()
+            device = routes.gate.devices[""] = Device("", sent.role, sent.by, now, now)
+            reply = routes.write(request, sent.role, device, list(sent.rest))
     except NotSent as why:
         return 422, str(why)
     except Asked as asked:

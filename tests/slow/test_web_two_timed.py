@@ -35,6 +35,8 @@ class TimedTrial(WebTrial):
         phone.click(f"#races [data-key={name}]")
         phone.click(f"dialog[open] [data-race='{value}'], dialog[open] [data-value='{value}']")
         phone.until(SHUT)
+        shown = "–" if value == "none" else value
+        phone.until(f"document.querySelector('#races [data-key={name}] b').textContent === '{shown}'")
 
     def begun(self, phone: Device, start: str, title: str, name: str = "") -> None:
         """Types the start of a class."""
