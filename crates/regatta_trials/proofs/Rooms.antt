@@ -1,6 +1,6 @@
 -- What a log has room for once a batch is kept.
-use Rattle.std.proofs.Common.{◌≡◌, ℕ, ◌+◌, ◌≤◌, List, ◌++◌, length}
-use Rattle.std.proofs.Common.{sym, ◌∙◌, ap, arith, length-append}
+use Rattle.std.proofs.Common.{◌+◌, ◌≤◌, length}
+use Rattle.std.proofs.Common.{ap, arith, length-append}
 use Rattle.regatta_terms.specs.declared.limits.TheConstants.{MAX_ENTRIES}
 use Rattle.regatta_scores.specs.Journal.{Journal}
 use Rattle.regatta_keep.specs.Crashes.{Seen}
