@@ -107,7 +107,7 @@ class Outputs(ForgedPages):
 # adds a value here has seen that no page can choose it.
 KNOWN: dict[str, set[str]] = {
     "own_words.py": {"NAME", "verdict.ruling.line", "worded(verdict.why) if verdict.why else verdict.state"},
-    "page_data.py": {"BLOCK", "ID", "KIND", "SERIES", "WRITTEN", "age", "cause", "cause.lineno", "found", "name",
+    "page_data.py": {"BLOCK", "CALLED", "ID", "KIND", "SERIES", "WRITTEN", "age", "cause", "cause.lineno", "found", "name",
         "now.isoformat(timespec='seconds')", "sail", "seal", "stamp.changed", "stamp.every", "text", "wanted",
         "what", "wrong"},
     "verifier.py": {"' '.join(sorted(theirs)) or 'none'", "LARGEST", "PATIENCE", "at", "at + 1",
