@@ -426,10 +426,14 @@ class Two(WebTrial):
         ann.until("document.querySelector('#link').dataset.state === 'sending' || !!document.querySelector('dialog[open]')")
         title = "document.querySelector('dialog[open] h2')?.textContent"
         ann.until(f"{title} === 'Where did GBR 33 Folkboats finish?'", 30)
-        ann.run("""window.putOffAt = performance.now();
-            document.querySelector("dialog[open]").end("");
-            document.querySelector("#list li[data-key='cup GBR33'] button.finisher").click();""")
-        ann.until(f"{title} === 'GBR 33 Autumn Cup'", 30)
+        # On a slow machine the question may be there again before the row opens.
+        ann.until(f"""(() => {{
+            if ({title} === 'GBR 33 Autumn Cup') return true;
+            if (document.querySelector("dialog[open]")) window.putOffAt = performance.now();
+            document.querySelector("dialog[open]")?.end("");
+            document.querySelector("#list li[data-key='cup GBR33'] button.finisher").click();
+            return false;
+        }})()""", 60)
         ann.run("document.querySelector('dialog[open]').end('')")
         asked = f"{title} === 'Where did GBR 33 Folkboats finish?' && performance.now() - window.putOffAt"
         self.assertGreater(ann.until(asked, 30), 5900)
