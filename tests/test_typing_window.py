@@ -545,6 +545,14 @@ Nothing of race 1 has to be taken away.
             self.assertIn(f"'{number}' is no number of a line, from 1 on", said)
             self.assertEqual(status, 2)
 
+    def test_file_again(self) -> None:
+        """What sends the rest of a file can be copied, also if the folder's name has a space."""
+        self.make("my cup")
+        self.open("my cup")
+        said, status = helpers.run("type", "my cup", "--role", "finish", lines="FINISH 1 GBR78\n", cwd=self.here)
+        self.assertEqual(status, 1)
+        self.assertIn("raceoffice type 'my cup' --role finish --from 1 < lines.txt", said)
+
     def test_unscore(self) -> None:
         """To take a race out of the results is asked, and what that moves is said."""
         self.open()

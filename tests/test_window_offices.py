@@ -252,6 +252,23 @@ class Watching(helpers.Series):
         self.assertFalse(watcher.at_prompt)
 
 
+    def test_fault(self) -> None:
+        """A fault of the package in a look leaves its trace and is said once, and the looks go on."""
+        class Last(BaseException):
+            """Ends what would look for ever."""
+
+        said: list[str] = []
+        session = Session(Folder(os.path.join(self.here, "cup")), "FINISH", "", print, bool)
+        looks = mock.Mock(side_effect=[ValueError("odd"), ValueError("odd"), Trouble("nobody can say"), Last])
+        with mock.patch.object(Watcher, "is_heard", looks), \
+                mock.patch("raceoffice.typing_window.watcher.LOOK", 0), \
+                mock.patch("raceoffice.typing_window.watcher.say", said.append):
+            self.assertRaises(Last, Watcher([session]).run)
+        self.assertEqual(len(said), 2, said)
+        self.assertIn("ValueError", said[0])
+        self.assertEqual(said[1], "nobody can say.")
+
+
 class EnteredAgain(helpers.Series):
     """A boat was entered by mistake, and taken out while a place is kept behind her. Then she comes after all, and
     finishes after it."""

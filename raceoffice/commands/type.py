@@ -35,7 +35,7 @@ from raceoffice.program.messages import ROLES
 from raceoffice.series.folder import Folder
 from raceoffice.series.settings import is_between
 from raceoffice.session.session import Session
-from raceoffice.terminal import command_name, say, typed
+from raceoffice.terminal import say, typed
 from raceoffice.typing_window.batch import LARGEST, Batch, lines_of
 from raceoffice.typing_window.window import Window, show
 from raceoffice.wording import on_one_line
@@ -74,7 +74,7 @@ def send_file(asked: argparse.Namespace) -> int:
     lines = lines_of(sys.stdin.buffer.read(LARGEST))
     session = Session(folder, role, asked.name, show, lambda _: True)
     session.connect()
-    again = f"{command_name()} type {asked.folders[0]} --role {role.lower()}"
+    again = f"{folder.command('type')} --role {role.lower()}"
     return Batch(session, lines, again).send(asked.start, asked.go_on)
 
 

@@ -10,6 +10,8 @@ import time
 from raceoffice import system
 from raceoffice.errors import Trouble
 from raceoffice.session.session import Session
+from raceoffice.terminal import say, sentence
+from raceoffice.traces import guarded
 
 try:
     # Arrow keys, and the lines typed before.
@@ -39,6 +41,7 @@ class Watcher(threading.Thread):
         self.sessions, self.half, self.not_before = sessions, "", 0.0
         # What of the offices' windows was said here.
         self.told: dict[Session, str] = {}
+        self.faults: set[str] = set()
         self.at_prompt, self.begun, self.prompts, self.interrupted = False, False, 0, 0
         # The window's own thread, which makes this one.
         self.window = threading.get_ident()
@@ -76,17 +79,32 @@ class Watcher(threading.Thread):
 
     def run(self) -> None:
         while True:
-            if self.is_heard(LOOK) and not self.at_prompt:
-                # Nobody is at the prompt to be told of it.
-                time.sleep(LOOK / 10)
-            prompt = self.prompts
-            is_news = self.at_prompt and (self.is_heard(0) or self.is_closing() or self.is_back()
-                                          or self.is_warned())
-            # What comes from an office is news only if nobody has sent a line meanwhile.
-            if is_news and self.at_prompt and self.prompts == prompt:
-                self.interrupted = prompt
-                system.interrupt(self.window)
+            try:
+                with guarded(self.sessions[0].folder.path if self.sessions else ""):
+                    self.look()
+            except Trouble as trouble:
+                self.tell_once(sentence(trouble))
                 time.sleep(LOOK)
+
+    def tell_once(self, text: str) -> None:
+        """Says what is wrong with the looks themselves; the same fault only once."""
+        if text not in self.faults:
+            self.faults.add(text)
+            say(text)
+
+    def look(self) -> None:
+        """Waits for a moment, and interrupts the prompt if there is news."""
+        if self.is_heard(LOOK) and not self.at_prompt:
+            # Nobody is at the prompt to be told of it.
+            time.sleep(LOOK / 10)
+        prompt = self.prompts
+        is_news = self.at_prompt and (self.is_heard(0) or self.is_closing() or self.is_back()
+                                      or self.is_warned())
+        # What comes from an office is news only if nobody has sent a line meanwhile.
+        if is_news and self.at_prompt and self.prompts == prompt:
+            self.interrupted = prompt
+            system.interrupt(self.window)
+            time.sleep(LOOK)
 
     def is_heard(self, patience: float) -> bool:
         """Whether anything comes from an office within the patience."""
