@@ -456,6 +456,8 @@ ENGLISH: dict[str, str | tuple[str, str] | tuple[str, str, str]] = {
     "stick-gone": "that stick isn't in any more: look again",
     "reason-long": "the reason has more than {most} letters",
     "other-window": "another window keeps this office: close it there, and open it again",
+    "window-gone": "the window that kept this office has gone: open the office here first",
+    "boat-stays": "{sail} stays in the journal",
 }
 
 

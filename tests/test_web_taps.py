@@ -2,6 +2,7 @@
 from __future__ import annotations
 
 import concurrent.futures
+import contextlib
 import errno
 import fcntl
 import http.client
@@ -22,6 +23,7 @@ from raceoffice.errors import NotNow
 from raceoffice.program.journal import Race
 from raceoffice.program.replay import Line
 from raceoffice.series.folder import Folder
+from raceoffice.series.windows import OFFICE, Presence
 from raceoffice.web.room import identity_of
 from raceoffice.web.tap_session import TapSession
 from raceoffice.web.taps import Register, Sent, Tap
@@ -341,7 +343,13 @@ class Closing(unittest.TestCase):
                 self.assertFalse(folder.is_closing())
                 remove(note)
             folder.set_closing(True)
-            self.assertTrue(folder.is_closing())
+            # A window that was killed has left it.
+            self.assertFalse(folder.is_closing() or folder.is_closing_for_good())
+            with contextlib.closing(Presence(folder, OFFICE)):
+                self.assertTrue(folder.is_closing() and folder.is_closing_for_good())
+                folder.set_closing(True, comes_back=True)
+                self.assertTrue(folder.is_coming_back())
+            self.assertFalse(folder.is_coming_back())
 
 
 class Stopped(helpers.Series):

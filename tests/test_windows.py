@@ -1,6 +1,7 @@
 """Which windows of a series are open: those whose processes hold their files, whatever started them."""
 from __future__ import annotations
 
+import errno
 import os
 import signal
 import subprocess
@@ -12,6 +13,7 @@ from unittest import mock
 import helpers
 from raceoffice import system
 from raceoffice.files import PRIVATE
+from raceoffice.office.process import OfficeProcess
 from raceoffice.series.folder import Folder
 from raceoffice.series.windows import BOARD, FOLDER, OFFICE, TYPING, Presence, open_windows
 
@@ -135,6 +137,22 @@ class Windows(helpers.Series):
         window = Presence(self.folder, TYPING, "Ann")
         self.assertEqual(open_windows(self.folder), {})
         window.close()
+
+    def test_room_again(self) -> None:
+        """That of an office is shown once there is room: whoever looks would think that nobody keeps the office."""
+        office = OfficeProcess(self.folder)
+        self.addCleanup(office.lock.leave)
+        with mock.patch.object(os, "write", side_effect=OSError(errno.ENOSPC, "No space left on device")):
+            office.show()
+        self.assertEqual((os.listdir(self.place), self.folder.has_window()), ([], False))
+        office.show()
+        self.assertTrue(self.folder.has_window())
+        assert office.presence
+        shown = office.presence
+        office.show()
+        self.assertIs(office.presence, shown)
+        shown.close()
+        self.assertFalse(self.folder.has_window())
 
 
 if __name__ == "__main__":

@@ -77,7 +77,6 @@ class Keeping:
         was ended."""
         if not self.service.is_taken_over(ask):
             return False
-        self.folder.set_closing(False)
         self.folder.set_beware("")
         self.folder.settings = settings_in_force(self.folder)
         return True
@@ -118,6 +117,7 @@ class Keeping:
     def look(self) -> None:
         """Sees that no place is lost, and copies what is new. Now and then it looks at the copy and at the door,
         and makes a dated copy."""
+        self.service.show()
         if self.backups.is_owed:
             self.backups.keep_lost(MOMENT)
         self.say_once("places", self.backups.guard_places())

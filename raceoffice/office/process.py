@@ -121,6 +121,8 @@ class OfficeProcess:
         except Gone:
             self.stop()
             return False
+        # That of a window that was killed would be believed as soon as this one is shown.
+        self.folder.set_closing(False)
         self.note_pid()
         return True
 
@@ -163,8 +165,9 @@ class OfficeProcess:
             self.link = self.folder.link()
 
     def show(self) -> None:
-        """Shows that this window is open."""
-        self.presence = self.presence or Presence(self.folder, OFFICE)
+        """Shows that this window is open, if that isn't shown: the disk may have been full."""
+        if not self.presence or not self.presence.is_shown():
+            self.presence = Presence(self.folder, OFFICE)
 
     def note_pid(self) -> None:
         """Notes the program's process and this window's."""

@@ -5,10 +5,10 @@ from __future__ import annotations
 import contextlib
 import os
 import time
+from typing import Protocol
 
 from raceoffice import system
 from raceoffice.files import PRIVATE
-from raceoffice.series.folder import Folder
 
 FOLDER = "windows"
 OFFICE, TYPING, BOARD = "office", "typing", "board"
@@ -17,10 +17,17 @@ OFFICE, TYPING, BOARD = "office", "typing", "board"
 TRIES, PATIENCE = 10, 0.2
 
 
+class Files(Protocol):
+    """The folder of a series, as far as windows know it."""
+
+    def file(self, *names: str) -> str:
+        """The path of a file of the series."""
+
+
 class Presence:
     """Shows that this window is open, of which kind it is, and who types there; not on a full disk."""
 
-    def __init__(self, folder: Folder, kind: str, who: str = "") -> None:
+    def __init__(self, folder: Files, kind: str, who: str = "") -> None:
         self.path = folder.file(PRIVATE, FOLDER, str(os.getpid()))
         self.file = -1
         text = f"{kind}\t{who or kind} since {time.strftime('%H:%M')}\n"
@@ -33,6 +40,8 @@ class Presence:
                     os.truncate(self.file, 0)
                     os.write(self.file, text.encode("utf-8", "replace"))
                     return
+        # What has no words shows nothing.
+        self.close()
 
     def is_held(self) -> bool:
         """Takes the lock of a file that has this window's number; whether nobody has removed the file."""
@@ -45,16 +54,20 @@ class Presence:
         self.file = -1
         return False
 
+    def is_shown(self) -> bool:
+        """Whether others can see that the window is open."""
+        return self.file >= 0
+
     def close(self) -> None:
         """The window isn't open any more."""
-        if self.file >= 0:
+        if self.is_shown():
             with contextlib.suppress(OSError):
                 os.remove(self.path)
             os.close(self.file)
             self.file = -1
 
 
-def open_windows(folder: Folder, *kinds: str) -> dict[str, str]:
+def open_windows(folder: Files, *kinds: str) -> dict[str, str]:
     """The windows of these kinds that are open, or of all, by the numbers of their processes: who types
     there, and since when."""
     place, found = folder.file(PRIVATE, FOLDER), {}

@@ -71,6 +71,10 @@ class KeptOffice:
             return True in system.sockets_at(self.folder.socket)
         return False
 
+    def has_window(self) -> bool:
+        """Whether this process keeps the office, or a window does. If that has gone, nobody copies the journal."""
+        return self.keeping is not None or self.folder.has_window()
+
     def takes_lines(self) -> bool:
         """Whether this process keeps an office that isn't being closed for good."""
         return self.keeping is not None and (self.comes_back or not self.is_asked_to_close)
@@ -232,16 +236,19 @@ class KeptOffice:
             return
         self.keep_trying()
 
-    def keep_trying(self) -> None:
-        """Opens the office as it was. If it can't be opened that is tried again, after a pause that grows, until somebody
-        closes it. What has to be asked waits for the scorer."""
+    def keep_trying(self, agreed: Question | None = None) -> None:
+        """Opens the office as it was, or with the rules that somebody has `agreed` to. If it can't be opened that is tried
+        again, after a pause that grows, until somebody closes it. What has to be asked waits for the scorer. If the rules
+        would come to something else by now, it goes on with those in force."""
         asked: list[Question] = []
 
         def note(question: Question) -> bool:
+            if question.kind == "new-rules":
+                return question == agreed
             asked.append(question)
             return False
         pause = SOON
-        while not self.is_left.is_set() and not self.open(note, as_it_was=True, is_again=True):
+        while not self.is_left.is_set() and not self.open(note, as_it_was=agreed is None, is_again=True):
             if asked:
                 self.say(remark("office-waits"))
                 return
@@ -271,12 +278,16 @@ class KeptOffice:
         self.is_over = True
         return self.close()
 
-    def come_back(self, ask: Ask, as_it_was: bool) -> bool:
+    def come_back(self, ask: Ask, as_it_was: bool, agreed: Question | None = None) -> bool:
         """Opens the office again that was closed for a moment, unless somebody has closed it meanwhile; whether it is
-        open. If it can't be opened, that is tried again."""
-        is_open = self.open(ask, as_it_was, is_again=True)
+        open. If it can't be opened, that is tried again. If something has to be asked, it is opened as it was before that."""
+        try:
+            is_open = self.open(ask, as_it_was, is_again=True)
+        except Asked:
+            self.come_back(no, as_it_was=True)
+            raise
         if not is_open:
-            threading.Thread(target=self.keep_trying, daemon=True).start()
+            threading.Thread(target=self.keep_trying, args=(agreed,), daemon=True).start()
         return is_open
 
     def take_out(self, sail: str, by: str, ask: Ask) -> str:
@@ -287,13 +298,14 @@ class KeptOffice:
         if fault := journal_fault(fresh) or disk_fault(fresh):
             raise NotSent(fault)
         wanted = question_of_removal(fresh, sail)
-        ask(wanted)
+        if not ask(wanted):
+            raise NotSent(remark("boat-stays", sail=sail))
         was_open = self.close(comes_back=True)
         try:
             copy, fault = self.taken_out(fresh, sail, by, wanted)
         finally:
             if was_open:
-                self.come_back(lambda _: False, as_it_was=True)
+                self.come_back(no, as_it_was=True)
         self.say(remark("office-out", sail=sail, copy=copy), *([remark("office-no-copy", why=fault)] if fault else []))
         return copy
 
@@ -304,7 +316,7 @@ class KeptOffice:
         try:
             with self.lock:
                 if lock.is_taken():
-                    raise NotSent(remark("other-window"))
+                    raise NotSent(self.who_keeps())
                 # Somebody may have typed until it was closed.
                 if (now := question_of_removal(folder, sail)) != wanted:
                     raise Asked(now, [])
@@ -313,10 +325,14 @@ class KeptOffice:
             lock.leave()
 
     def folder_alone(self) -> Folder:
-        """The folder as it is now, if no other window keeps its office; else NotSent."""
+        """The folder as it is now, if its office is closed or this process keeps it; else NotSent."""
         if not self.keeping and self.is_there():
-            raise NotSent(remark("other-window"))
+            raise NotSent(self.who_keeps())
         return Folder(self.folder.path)
+
+    def who_keeps(self) -> Remark:
+        """What is said of an office that this process doesn't keep."""
+        return remark("other-window" if self.has_window() else "window-gone")
 
     def open_again_with_settings(self, ask: Ask) -> bool:
         """Closes the office and opens it with the settings as they are now; whether it is open then. What they
@@ -325,11 +341,11 @@ class KeptOffice:
         if wrong := faults(fresh) or [fault for fault in [disk_fault(fresh)] if fault]:
             raise NotSent(*wrong)
         asked = question_of_rules(fresh)
-        as_it_was = bool(asked and not ask(asked))
+        agreed = asked if asked and ask(asked) else None
         # Somebody wants it open, whoever has closed it before.
         self.is_left.clear()
         self.close(comes_back=True)
-        return self.come_back(ask, as_it_was)
+        return self.come_back(ask, asked != agreed, agreed)
 
 
 def question_of_removal(folder: Folder, sail: str) -> Question:
@@ -342,6 +358,11 @@ def question_of_removal(folder: Folder, sail: str) -> Question:
         raise NotSent(*trouble.said) from None
     lines = [" ".join(line.split()[2:]) for line in found.about.values()]
     return question("remove-boat", str, sail=sail, lines=lines, moves=map(move_text, moves), also=also)
+
+
+def no(_: Question) -> bool:
+    """What has to be asked isn't agreed to: nobody is there to say so."""
+    return False
 
 
 def is_yes(_: Question) -> bool:

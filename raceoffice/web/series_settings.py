@@ -57,7 +57,8 @@ def settings_kept(folder: Folder, office: KeptOffice) -> Values:
         return {"wrong": remarks_of(wrong), "tag": tag_of(text)}
     # One that is being closed is opened again once it is closed.
     is_kept_here, values = office.takes_lines(), settings.values_of(text)
-    is_open = is_kept_here or not office.keeping and office.is_there()
+    # One whose window has gone is opened here, too.
+    is_open = is_kept_here or not office.keeping and office.is_there() and office.has_window()
     kept, opened = settings.settings_of(values), settings_in_force(folder)
     return {"wrong": [], "tag": tag_of(text), "is_open": is_open, "is_kept_here": is_kept_here,
             "settings": {key: (settings.DEFAULTS | values)[key] for key in GIVEN}, **times_rules(folder),
