@@ -17,6 +17,7 @@ import sys
 import tempfile
 import time
 from collections.abc import Callable, Iterator, Mapping
+from dataclasses import dataclass
 from typing import Any
 
 from raceoffice.errors import Trouble
@@ -144,13 +145,40 @@ def sticks() -> dict[str, int]:
         return {}
     try:
         places = {f"{place}/{pwd.getpwuid(account()).pw_name}" for place in STICKS}
-        with open(MOUNTS, encoding="utf-8", errors="surrogateescape") as file:
-            mounted = MOUNT.findall(file.read())
-    except (OSError, KeyError):
+    except KeyError:
         return {}
-    found = {plain_mount(folder): os.makedev(int(major), int(minor))
-             for major, minor, folder, how in mounted if "rw" in how.split(",")}
-    return {folder: device for folder, device in sorted(found.items()) if os.path.dirname(folder) in places}
+    return {folder: mount.device for folder, mount in sorted(mounts().items())
+            if "rw" in mount.how and os.path.dirname(folder) in places}
+
+
+# What is mounted
+
+@dataclass(frozen=True)
+class Mount:
+    """A file system that is mounted: its device, and how it may be used."""
+    device: int
+    how: list[str]
+
+
+def mounts() -> dict[str, Mount]:
+    """What is mounted, by its folders. None of them is asked."""
+    try:
+        with open(MOUNTS, encoding="utf-8", errors="surrogateescape") as file:
+            found = MOUNT.findall(file.read())
+    except OSError:
+        return {}
+    return {plain_mount(folder): Mount(os.makedev(int(major), int(minor)), how.split(","))
+            for major, minor, folder, how in found}
+
+
+def mount_of(path: str) -> str:
+    """The folder at which the file system of a path is mounted. No file is asked for that."""
+    return max((folder for folder in mounts() if is_inside(path, folder)), key=len, default="/")
+
+
+def is_inside(path: str, folder: str) -> bool:
+    """Whether a path is that of a folder, or begins with it."""
+    return os.path.join(path, "").startswith(os.path.join(folder, ""))
 
 
 def plain_mount(text: str) -> str:
@@ -173,7 +201,7 @@ def short_name(path: str) -> Iterator[str]:
 
 
 def folders_of_sockets() -> dict[int, str]:
-    """By the number of a socket, the folder of a process that has it open."""
+    """By the number of a socket, the folder of a process that has it open, which has no links."""
     found = {}
     for name in glob.iglob("/proc/[0-9]*/fd/[0-9]*"):
         # A process may end meanwhile, and those of other accounts aren't shown.
@@ -207,13 +235,22 @@ def sockets_at(path: str, ours: bool = True) -> list[bool]:
             # links may lead from there to here by now.
             continue
         if folder is not None or os.path.isabs(name):
-            same = os.path.realpath(os.path.join(folder or "/", name)) == asked
+            same = leads_to(folder or "/", name, asked)
         else:
             # Another account's office may have made that account's file.
             same = True
         if same:
             found.append(bool(int(flags, 16) & LISTENS))
     return found
+
+
+def leads_to(folder: str, name: str, place: str) -> bool:
+    """Whether a name leads from a folder to a place, which both have no links. No file system is asked that hasn't the place
+    inside: another office's may be on a drive that hangs, and that must not hold up this one."""
+    path = os.path.join(folder, name)
+    if path == place or "/" not in name:
+        return path == place
+    return is_inside(place, mount_of(os.path.normpath(path))) and os.path.realpath(path) == place
 
 
 def addresses_in_networks() -> list[str]:
@@ -252,9 +289,10 @@ def command_line_of(number: int) -> list[bytes]:
 
 
 def works_in(number: int, folder: str) -> bool:
-    """Whether a process has this folder for its own."""
+    """Whether a process has this folder for its own. The kernel says where it is: the folder of another office isn't asked,
+    which may hang."""
     with contextlib.suppress(OSError):
-        return os.path.samefile(f"/proc/{number}/cwd", folder)
+        return os.readlink(f"/proc/{number}/cwd") == os.path.realpath(folder)
     return False
 
 

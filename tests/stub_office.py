@@ -96,8 +96,10 @@ def devices() -> dict[str, Any]:
                             ("SCORER", "Bea’s laptop", 0, 0), ("FINISH", "Ann’s phone", 4, 3),
                             ("JURY", "Protest room", 700, 0)])],
             "beside": [{"name": "spring-cup-2025", "title": "Spring Cup", "state": "final"}],
-            "offices": [{"class": "cup", "said": at_noon(OFFICE_SAYS), "open": True, "is_kept_here": False},
-                        {"class": "fleet", "said": at_noon([remark("office-nothing")]), "open": False, "is_kept_here": False}]}
+            "offices": [{"class": "cup", "said": at_noon(OFFICE_SAYS), "open": True, "is_kept_here": False,
+                         "has_window": True, "is_away": False},
+                        {"class": "fleet", "said": at_noon([remark("office-nothing")]), "open": False, "is_kept_here": False,
+                         "has_window": False, "is_away": False}]}
 
 
 def results() -> dict[str, Any]:

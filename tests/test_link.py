@@ -10,7 +10,8 @@ import subprocess
 import tempfile
 import threading
 import unittest
-from collections.abc import Iterator
+from collections.abc import Callable, Iterator
+from typing import Any
 from unittest import mock
 
 import helpers
@@ -55,6 +56,16 @@ STARTS = {
     "ENTER B/2\n" + "X" * 81 + "/20": "1 1 SCORER ENTER A\n" + "".join(
         f"1 {at} FINISH {('FINISH', 'STRIKE')[at % 2]} 1 A\n" for at in range(2, 8193)),
 }
+
+
+def hanging(call: Callable[..., Any], folder: str) -> Callable[..., Any]:
+    """A call of the system that fails where it would hang: in a folder, or in that of a process that works there."""
+    def asked(path: Any, *words: Any, **more: Any) -> Any:
+        place = os.readlink(path) if str(path).startswith("/proc/") and str(path).endswith("/cwd") else str(path)
+        if system.is_inside(place, folder):
+            raise AssertionError(f"{path} is asked")
+        return call(path, *words, **more)
+    return asked
 
 
 class Replies(unittest.TestCase):
@@ -244,6 +255,23 @@ class Ways(unittest.TestCase):
             with mock.patch.object(system, "folders_of_sockets", return_value={}):
                 self.assertEqual(system.sockets_at(name), [])
                 self.assertEqual(system.sockets_at(name, ours=False), [True])
+
+    def test_folder_of_another_office(self) -> None:
+        """It isn't asked, since it may be on a drive that hangs. Nor is a file system in which this one isn't, whatever its
+        sockets are called."""
+        with tempfile.TemporaryDirectory() as held, helpers.served(folder=self.here) as (path, own), \
+                helpers.served(folder=held) as (_, serving), socket.socket(socket.AF_UNIX, socket.SOCK_STREAM) as door:
+            other = os.path.realpath(held)
+            os.mkdir(os.path.join(other, "in"))
+            # The name of this one has slashes, and begins with no folder of a process.
+            door.bind(os.path.join(other, "in", "race.sock"))
+            door.listen()
+            mounted = {"/": system.Mount(1, ["rw"]), other: system.Mount(2, ["rw"])}
+            with mock.patch.object(system, "mounts", return_value=mounted), \
+                    mock.patch.object(os, "lstat", hanging(os.lstat, other)), mock.patch.object(os, "stat", hanging(os.stat, other)):
+                self.assertEqual(system.sockets_at(path), [True])
+                self.assertTrue(system.works_in(own.pid, os.path.dirname(path)))
+                self.assertFalse(system.works_in(serving.pid, os.path.dirname(path)))
 
     def test_no_descriptor(self) -> None:
         """A client for whom the office has no descriptor gets BUSY, and the office goes on."""

@@ -4,6 +4,7 @@ from __future__ import annotations
 import asyncio
 import errno
 import os
+import re
 import shutil
 import socket
 import subprocess
@@ -22,14 +23,16 @@ from raceoffice.series import copies, settings
 from raceoffice.series.continuity import differences
 from raceoffice.series.folder import Folder
 from raceoffice.series.health import disk_fault
+from raceoffice.session.dialogue import Question
 from raceoffice.system import sync_folder
-from raceoffice.web import kept_office
+from raceoffice.web import kept_office, serving, web_office
 from raceoffice.web.gate import Gate
 from raceoffice.web.hosting import Host
 from raceoffice.web.kept_office import KeptOffice
 from raceoffice.web.requests import Reply, Request
 from raceoffice.web.room import Room
-from raceoffice.web.web_office import WebOffice
+from raceoffice.web.tap_session import Asked
+from raceoffice.web.web_office import LeftOut as LeftOutClass, WebOffice
 from web_devices import READY, Web
 
 CROWD, ROOM = 200, 8
@@ -187,6 +190,70 @@ class Faults(helpers.Series):
             helpers.until("the office", office.is_there)
         self.closed(office)
 
+    def other_rules(self) -> None:
+        self.write(re.sub("(?m)^exclude = .*$", "exclude = 4", self.text("cup", "series.ini")), "cup", "series.ini")
+
+    def test_agreed_rules_come_late(self) -> None:
+        """So is one that was to come back with other rules: with those that somebody agreed to."""
+        office = self.opened()
+        self.other_rules()
+        asked, again = once_wrong(Keeping.start, Trouble("there is no room"))
+        with mock.patch.object(kept_office, "SOON", 0.05), mock.patch.object(Keeping, "start", lambda keeping: asked(keeping)):
+            self.assertFalse(office.open_again_with_settings(lambda _: True))
+            self.assertTrue(again.wait(helpers.PATIENCE), "nobody opens the office")
+            helpers.until("the office", lambda: office.keeping)
+        with office.lock:
+            self.assertEqual(office.folder.settings.exclude, "4")
+        self.closed(office)
+
+    def test_asked_anew(self) -> None:
+        """If new rules come to something else once the office is closed for them, it is open by those in force before that
+        is asked."""
+        office, answers = self.opened(), iter([True])
+        self.other_rules()
+
+        def ask(question: Question) -> bool:
+            if not next(answers, False):
+                raise Asked(question, [])
+            return True
+        with self.assertRaises(Asked):
+            office.open_again_with_settings(ask)
+        self.assertTrue(office.is_there() and office.keeping)
+        self.assertNotEqual(office.folder.settings.exclude, "4")
+        self.closed(office)
+
+    def test_boat_that_stays(self) -> None:
+        """A boat isn't taken out if somebody says no, and the office isn't closed."""
+        office = self.opened()
+        with self.assertRaisesRegex(NotSent, "GBR101 stays in the journal"), mock.patch.object(office, "close"):
+            office.take_out("GBR101", "Bea", lambda _: False)
+        self.assertIn("GBR101", self.text("cup", "journal.txt"))
+        self.closed(office)
+
+    def test_added_at_the_end(self) -> None:
+        """A web that ends takes no class in, also if it comes to end meanwhile; the class may be served by another then."""
+        office = WebOffice(Gate(""), self.here, "", lambda text: None)
+
+        def ends(folder: Folder, tell: Callable[[str], None]) -> KeptOffice:
+            office.is_ending.set()
+            return KeptOffice(folder, tell)
+        with mock.patch.object(web_office, "KeptOffice", ends):
+            for _ in range(2):
+                self.assertRaisesRegex(Trouble, "is being closed", office.add, self.folder)
+        self.assertEqual(office.classes, {})
+        Room(self.folder, lambda: None).close()
+
+    def test_served_before_its_turn(self) -> None:
+        """A class that is served already isn't taken in a second time, nor left out for that."""
+        web = serving.Web(serving.Asked((self.folder.path,), 0, "", "", "", ()))
+        self.addCleanup(web.office.close)
+        web.office.add(self.folder)
+        web.open_all()
+        web.office.leave_out(self.folder, Trouble("it is there twice"))
+        self.assertEqual((list(web.office.classes), web.office.left_out), (["cup"], {}))
+        web.office.left_out["cup"] = LeftOutClass(self.folder.path, ())
+        web.office.add_again("cup")
+
     def test_closed_for_a_moment(self) -> None:
         """An office that is closed while it is only closed for a moment stays so, and is opened again when that is wanted;
         but not by a web that ends."""
@@ -272,8 +339,8 @@ class Faults(helpers.Series):
         """The board is kept up to date on."""
         office = WebOffice(Gate(""), self.here, "", lambda text: None)
         self.addCleanup(office.is_ending.set)
-        asked, again = once_wrong(Gate.note_heard, OSError(2, "No such file"))
-        with mock.patch.object(Gate, "note_heard", lambda gate: asked(gate)), \
+        asked, again = once_wrong(WebOffice.follow_address, OSError(2, "No such file"))
+        with mock.patch.object(WebOffice, "follow_address", lambda office: asked(office)), \
                 mock.patch("threading.excepthook"):
             threading.Thread(target=office.keep_board, daemon=True).start()
             self.assertTrue(again.wait(helpers.PATIENCE), "nobody keeps the board")

@@ -289,13 +289,15 @@ class Gate:
         if "x-unsent" in request.fields:
             device.unsent += 1
 
+    def is_to_be_noted(self) -> bool:
+        """Whether it is time to write down when devices were heard."""
+        return self.is_heard and time.monotonic() - self.written > OFTEN
+
     def note_heard(self) -> None:
-        """Writes down when devices were heard, now and then. On a full disk that isn't known, and nothing
-        else."""
-        if self.is_heard and time.monotonic() - self.written > OFTEN:
-            self.is_heard = False
-            with self.lock, contextlib.suppress(Trouble):
-                self.write()
+        """Writes down when devices were heard. On a full disk that isn't known, and nothing else."""
+        self.is_heard = False
+        with self.lock, contextlib.suppress(Trouble):
+            self.write()
 
     def token(self, request: Request, role: str) -> str:
         """What each writing request of a device has to carry: only its own pages can read it."""

@@ -2,11 +2,13 @@
 from __future__ import annotations
 
 import copy
+import functools
 import time
 from collections.abc import Callable, Sequence
 
 from raceoffice.errors import Trouble
 from raceoffice.program.link import Sheet
+from raceoffice.remarks import remark
 from raceoffice.results.http_answers import Board
 from raceoffice.results.publish import Site, served
 from raceoffice.results.source import ResultsSource
@@ -14,9 +16,10 @@ from raceoffice.series.run_program import rules_in_force
 from raceoffice.terminal import Once, sentence
 from raceoffice.traces import guarded
 from raceoffice.web.room import Room
+from raceoffice.web.side_by_side import SideBySide
 
-# Seconds between two looks at whether something has changed.
-TICK = 0.1
+# Seconds between two looks at whether something has changed, and after which a class whose look doesn't end is away.
+TICK, AWAY = 0.1, 10.0
 
 
 class RoomSource(ResultsSource):
@@ -52,18 +55,34 @@ class LiveBoard:
         self.sources = [RoomSource(room) for room in rooms]
         self.site, self.board = Site(list(self.sources)), board
         self.changed, self.note, self.once = changed, note, Once()
+        self.looks = SideBySide[str]()
 
     def round(self) -> None:
-        """Looks at the classes of which something is new, and shows what was found."""
+        """Looks at the classes of which something is new, and shows what was found. One whose folder hangs is away, and the
+        others are shown."""
+        due, looked = self.due_now(), self.looks.late_answers()
+        looked |= self.looks.answers({source.folder.name: functools.partial(self.look, source) for source in due})
+        for source in self.sources:
+            if source.folder.name in looked:
+                self.say_found(source, looked[source.folder.name])
+            elif self.looks.is_late(source.folder.name, AWAY):
+                source.office = "away"
+                self.say(source.folder.name, f"{source.name}: {sentence(remark('folder-silent', path=source.folder.path))}")
+        if due or looked:
+            self.say("pages", self.put())
+
+    def due_now(self) -> list[RoomSource]:
+        """The classes that are to be looked at now. What comes while that is done is seen in the next round."""
         due = [source for source in self.sources if source.is_due]
         for source in due:
-            # What comes while this looks is seen in the next round.
             source.seen, source.due = source.room.version, time.monotonic() + source.settings.every
-            self.say(source.folder.name, self.look(source))
-            for about, text in source.notes.items():
-                self.say(f"{source.folder.name} {about}", text and f"{source.name}: {sentence(text)}")
-        if due:
-            self.say("pages", self.put())
+        return due
+
+    def say_found(self, source: RoomSource, wrong: str) -> None:
+        """Says what a look at a class has found wrong."""
+        self.say(source.folder.name, wrong)
+        for about, text in source.notes.items():
+            self.say(f"{source.folder.name} {about}", text and f"{source.name}: {sentence(text)}")
 
     def look(self, source: RoomSource) -> str:
         """Looks at one class; why its page stays as it was, or nothing."""

@@ -17,6 +17,7 @@ from raceoffice.remarks import remark
 from raceoffice.results.http_answers import Text, address_of
 from raceoffice.series.entry_list import plain
 from raceoffice.series.folder import Folder
+from raceoffice.series.settings import Settings
 from raceoffice.session.confirm import questions
 from raceoffice.session.dialogue import Question
 from raceoffice.session.parse import COMMANDS, FIRST, MAY, race_number
@@ -30,9 +31,11 @@ from raceoffice.web.downloads import download
 from raceoffice.web.finish_order import Elsewhere
 from raceoffice.web.gate import MARK, ROLES, Device, plain_name
 from raceoffice.web.hosting import Waiting
+from raceoffice.web.kept_office import KeptOffice
 from raceoffice.web.requests import JSON, Reply, Request, Wrong, reply_of, tag_of, tagged
 from raceoffice.web.room import Room
 from raceoffice.web.rulings import one_line
+from raceoffice.web.side_by_side import SideBySide
 from raceoffice.web.states import Values, question_of, remarks_of, said_of
 from raceoffice.web.tap_session import Asked
 from raceoffice.web.taps import LATEST, NoTap, Tap, agreed_in
@@ -56,6 +59,17 @@ def being_opened() -> Wrong:
     return Wrong(503, said, said=remarks_of([said]))
 
 
+def office_shown(name: str, office: KeptOffice) -> Values:
+    """An office as the scorer's page shows it."""
+    return {"class": name, "said": office.words(), "open": office.is_there(), "is_kept_here": office.keeping is not None,
+            "has_window": office.has_window(), "is_away": False}
+
+
+def closed_office(name: str, said: list[Values], is_away: bool = False) -> Values:
+    """The same of one that isn't served, or of one that `is_away`: its folder doesn't answer."""
+    return {"class": name, "said": said, "open": False, "is_kept_here": False, "has_window": False, "is_away": is_away}
+
+
 def no_such_class() -> Wrong:
     said = remark("no-class")
     return Wrong(404, said, said=remarks_of([said]))
@@ -69,6 +83,8 @@ class Routes:
         self.workers = Workers()
         self.files = static_files()
         self.states: dict[tuple[str, bool], tuple[int, bytes]] = {}
+        # What all classes are asked, of which one may hang
+        self.offices, self.settings = SideBySide[Values](), SideBySide[Settings | None]()
 
     def sender(self, request: Request) -> Device | None:
         """The device that a request comes from, if it is known and asks for an address of its role."""
@@ -110,12 +126,14 @@ class Routes:
                 return await self.read(request, role.upper(), rest)
             case [role, *rest] if role in PAGES:
                 device = self.gate.check_write(request, role.upper())
-                return await self.in_thread(device.role, self.waiting_for(device, rest), self.write, request, device.role, device, rest)
+                return await self.in_thread(self.about(device.role, rest), self.about(device.mark, rest), self.write, request,
+                                            device.role, device, rest)
         raise Wrong(404)
 
-    def waiting_for(self, device: Device, rest: list[str]) -> str:
-        """What requests of a device have to take turns for: those about a class that hangs hold up none about another."""
-        return " ".join([device.mark, *(part for part in rest[1:2] if part in self.office.classes)])
+    def about(self, name: str, rest: list[str]) -> str:
+        """What requests of a role, or of a device, take turns for: those about a class that hangs hold up none about another."""
+        known = {*self.office.classes, *self.office.left_out}
+        return " ".join([name, *(part for part in rest[1:3] if part in known)])
 
     def file(self, name: str) -> tuple[str, bytes]:
         if name not in self.files:
@@ -162,10 +180,10 @@ class Routes:
         self.office.tell(f"{role.lower()}: {name} came from {request.address}")
         return reply_of({"next": f"/office/{role.lower()}/", "name": name}, 200, {"Set-Cookie": cookie})
 
-    async def in_thread(self, role: str, name: str, work: Callable[..., Reply], *values: object) -> Reply:
-        """Does what may take time for a device of a role, and says in words what keeps it from being done."""
+    async def in_thread(self, pool: str, name: str, work: Callable[..., Reply], *values: object) -> Reply:
+        """Does what may take time, in a thread of a role, and says in words what keeps it from being done."""
         try:
-            return await self.workers.outcome(role, name, functools.partial(self.guarded, work, *values))
+            return await self.workers.outcome(pool, name, functools.partial(self.guarded, work, *values))
         except NotNow as why:
             # The device keeps the tap, and its place among those that wait.
             raise Wrong(503, sentence(why), "waits", said=remarks_of(why.said)) from None
@@ -195,7 +213,7 @@ class Routes:
             return tagged(request, *self.file("worker.js"))
         device = self.gate.device(request, role)
         self.gate.asking.take(device.mark)
-        in_thread = functools.partial(self.in_thread, role, self.waiting_for(device, rest))
+        in_thread = functools.partial(self.in_thread, self.about(role, rest), self.about(device.mark, rest))
         match rest:
             case ["me"]:
                 self.need_a_class()
@@ -260,24 +278,36 @@ class Routes:
         shown = [{"mark": device.mark[:MARK], "role": device.role, "name": device.name,
                   "heard": int(at - device.heard), "unsent": device.unsent, "mine": device is mine}
                  for device in sorted(self.gate.devices.values(), key=lambda device: -device.heard)]
-        offices = [{"class": name, "said": one.office.words(), "open": one.office.is_there(),
-                    "is_kept_here": one.office.keeping is not None}
-                   for name, one in self.office.classes.items()]
-        offices += [{"class": name, "said": remarks_of(one.said), "open": False, "is_kept_here": False}
-                    for name, one in self.office.left_out.items()]
-        served = [*self.office.classes, *self.office.left_out]
-        return reply_of({"devices": shown, "keys": sorted(self.gate.keys), "board": self.office.address,
-                         "offices": offices, "beside": series_beside.series_beside(self.office.parent, served)})
+        offices = [*self.offices_shown(), *(closed_office(name, remarks_of(one.said))
+                                            for name, one in list(self.office.left_out.items()))]
+        served = [*self.office.served(), *self.office.left_out]
+        return reply_of({"devices": shown, "keys": sorted(self.gate.keys), "board": self.office.address, "offices": offices,
+                         "beside": series_beside.series_beside(self.office.parent, served, self.settings)})
+
+    def offices_shown(self) -> list[Values]:
+        """The offices of all classes. One whose folder hangs is away."""
+        classes = self.office.classes
+        found = self.offices.answers({name: functools.partial(office_shown, name, one.office) for name, one in classes.items()})
+        return [found.get(name) or closed_office(name, one.office.words(), is_away=True) for name, one in classes.items()]
 
     def results(self, one: Class) -> Reply:
         """How the results stand, what is open, and the journal with its copies."""
         return reply_of(one.results.shown())
 
     def export(self, form: str, some: list[Class]) -> Reply:
-        """The results of a class as a file, or of all; what keeps a part from being shown is said."""
-        if not (found := some or list(self.office.classes.values())):
+        """The results of a class as a file, or of all but one whose folder hangs; what keeps a part from being shown is said."""
+        if not (found := some or self.answering()):
             raise no_such_class()
         return download(form, [one.room.folder for one in found], self.office.tell)
+
+    def answering(self) -> list[Class]:
+        """The classes whose folders answer; of any other its office says that its folder doesn't."""
+        paths = {name: one.room.folder.path for name, one in self.office.classes.items()}
+        found = self.settings.answers({path: functools.partial(series_beside.settings_in, path) for path in paths.values()})
+        for name, path in paths.items():
+            if path not in found:
+                self.office.classes[name].office.say(remark("folder-silent", path=path))
+        return [self.office.classes[name] for name, path in paths.items() if path in found]
 
     # What is written
 
@@ -345,7 +375,8 @@ class Routes:
             case ["new"]:
                 return self.make(request)
             case ["serve"]:
-                return self.serve(series_beside.path_of(self.office.parent, self.office.classes, request.values()))
+                served = self.office.served()
+                return self.serve(series_beside.path_of(self.office.parent, served, request.values(), self.settings))
         raise Wrong(404)
 
     def line(self, request: Request, role: str, device: Device, room: Room) -> Reply:
@@ -516,7 +547,8 @@ class Routes:
             return reply_of(asked.values, 409)
 
     def make(self, request: Request) -> Reply:
-        """Makes a series from a list and settings, and opens its office."""
+        """Makes a series from a list and settings, and opens its office; not while the web ends."""
+        self.office.need_open()
         return self.serve(new_series.folder_made(self.office.parent, request.values()))
 
     def serve(self, path: str) -> Reply:

@@ -1,6 +1,7 @@
 """The series beside those that are served, as those that are final: the scorer may have them served, too."""
 from __future__ import annotations
 
+import functools
 import os
 from collections.abc import Collection, Mapping
 from typing import Any
@@ -9,22 +10,30 @@ from raceoffice.characters import is_utf8
 from raceoffice.errors import NotSent, Trouble
 from raceoffice.remarks import remark
 from raceoffice.series import settings
+from raceoffice.web.side_by_side import SideBySide
 from raceoffice.web.states import Values
 
+# Reads the settings of several series, of which one may hang: None if they are wrong.
+Reading = SideBySide[settings.Settings | None]
 
-def series_beside(parent: str, served: Collection[str]) -> list[Values]:
-    """The series in a folder that aren't served, in the order of their names; none whose settings are wrong."""
-    found = [(name, settings_in(os.path.join(parent, name))) for name in names_in(parent) if name not in served]
-    return [{"name": name, "title": held.title, "state": held.state} for name, held in found if held]
+
+def series_beside(parent: str, served: Collection[str], reading: Reading) -> list[Values]:
+    """The series in a folder that aren't served, in the order of their names; none whose settings are wrong, or whose folder
+    doesn't answer."""
+    paths = {name: os.path.join(parent, name) for name in names_in(parent) if name not in served}
+    found = reading.answers({path: functools.partial(settings_in, path) for path in paths.values()})
+    held = [(name, found[path]) for name, path in paths.items() if path in found]
+    return [{"name": name, "title": one.title, "state": one.state} for name, one in held if one]
 
 
 def names_in(parent: str) -> list[str]:
-    """The folders of series in a folder, by the names that a page can show."""
+    """The folders in a folder, by the names that a page can show. None of them is asked: it may hang."""
     try:
-        names = sorted(os.listdir(parent))
+        with os.scandir(parent) as found:
+            names = sorted(one.name for one in found if one.is_symlink() or one.is_dir(follow_symlinks=False))
     except OSError:
         return []
-    return [name for name in names if is_utf8(name) and name[0] != "." and os.path.isfile(os.path.join(parent, name, settings.NAME))]
+    return [name for name in names if is_utf8(name) and name[0] != "."]
 
 
 def settings_in(path: str) -> settings.Settings | None:
@@ -35,9 +44,9 @@ def settings_in(path: str) -> settings.Settings | None:
         return None
 
 
-def path_of(parent: str, served: Collection[str], values: Mapping[str, Any]) -> str:
+def path_of(parent: str, served: Collection[str], values: Mapping[str, Any], reading: Reading) -> str:
     """The folder of a series that isn't served yet: one of those that are shown, and no other."""
     name = values.get("name")
-    if name not in [one["name"] for one in series_beside(parent, served)]:
+    if name not in [one["name"] for one in series_beside(parent, served, reading)]:
         raise NotSent(remark("no-series-beside"))
     return os.path.join(parent, str(name))

@@ -90,6 +90,9 @@ class Web:
         for folder in self.folders:
             if self.stopped:
                 return
+            if folder.name in self.office.classes:
+                # A page has it served already.
+                continue
             try:
                 self.office.add(folder).office.open(self.is_yes)
             except Stopped:

@@ -24,6 +24,7 @@ from raceoffice.web.kept_office import KeptOffice
 from raceoffice.web.live_board import TICK, LiveBoard
 from raceoffice.web.page_news import PageNews
 from raceoffice.web.room import Room
+from raceoffice.web.side_by_side import SideBySide
 from raceoffice.wording import count
 
 # Seconds within which pages learn of several pieces of news together, and phones that look at the board.
@@ -78,23 +79,57 @@ class WebOffice:
         """The version of each class, for the pages of the office."""
         return json.dumps({name: one.room.version for name, one in self.classes.items()})
 
+    def served(self) -> list[str]:
+        """The classes that are served or are being opened, by their names."""
+        return [*self.classes, *self.to_come]
+
     def add(self, folder: Folder) -> Class:
-        """One more class. The first one's folder keeps who may write."""
-        with self.lock:
-            need_own_names([*self.classes, folder.name])
-            room = Room(folder, self.news.wake, self.address)
+        """One more class. The first one's folder keeps who may write. A folder that hangs holds up nothing else."""
+        self.need_place(folder.name)
+        room = Room(folder, self.news.wake, self.address)
+        try:
             # A version is never lower than before the web was started again, also if the clock was set back.
             room.version = max(room.version, int(self.gate.clock.now() * 1000))
             office = KeptOffice(folder, lambda text: self.tell_of(folder.name, text))
             found = Class(room, office, Declarations(room, office, self.gate.holding))
-            if not self.classes and not self.gate.path:
-                self.gate.move(folder.file(PRIVATE, DEVICES_FILE))
-            self.to_come.discard(folder.name)
-            self.left_out.pop(folder.name, None)
-            self.show({**self.classes, folder.name: found})
+            with self.lock:
+                self.need_place(folder.name)
+                self.take_in(found)
+        except BaseException:
+            room.close()
+            raise
         threading.Thread(target=room.watch, daemon=True).start()
+        threading.Thread(target=self.watch_register, args=(found,), daemon=True).start()
         self.news.wake()
         return found
+
+    def need_place(self, name: str) -> None:
+        """A Trouble if a class of this name is served, or if the web ends."""
+        self.need_open()
+        need_own_names([*self.classes, name])
+
+    def need_open(self) -> None:
+        """A Trouble if the web ends: nobody would close an office that is opened then."""
+        if self.is_ending.is_set():
+            raise Trouble(remark("office-closing"))
+
+    def take_in(self, one: Class) -> None:
+        """Serves one more class from now on."""
+        folder = one.room.folder
+        if not self.classes and not self.gate.path:
+            self.gate.move(folder.file(PRIVATE, DEVICES_FILE))
+        self.to_come.discard(folder.name)
+        self.left_out.pop(folder.name, None)
+        self.show({**self.classes, folder.name: one})
+
+    def watch_register(self, one: Class) -> None:
+        """Takes a class away once its register isn't its own any more. It has a thread for that: its folder may hang."""
+        folder = one.room.folder
+        while not one.room.is_ending.wait(TICK):
+            with contextlib.suppress(Fault), guarded(folder.path):
+                if one.room.register.is_another():
+                    self.take_away(folder.name)
+                    return
 
     def take_away(self, name: str) -> None:
         """Closes a class whose register isn't its own any more, as when its folder was put back while it is served: from
@@ -124,15 +159,19 @@ class WebOffice:
             old.leave()
 
     def leave_out(self, folder: Folder, why: Trouble) -> None:
-        """Goes on without a class. The scorer's page says why, and opens it once that is put right."""
+        """Goes on without a class, unless it is served by now. The scorer's page says why, and opens it once that is put
+        right."""
+        if folder.name in self.classes:
+            return
         self.left_out[folder.name] = LeftOut(folder.path, why.said)
         self.to_come.discard(folder.name)
         self.tell(f"Beware: {folder.name} isn't served. {sentence(why)} Put that right, and open it on the scorer's page.")
 
     def add_again(self, name: str) -> None:
-        """Serves a class that was left out; a Trouble says why it still can't be."""
-        if name in self.left_out:
-            self.add(Folder(self.left_out[name].path))
+        """Serves a class that was left out, unless it is served by now; a Trouble says why it still can't be."""
+        held = self.left_out.get(name)
+        if held and name not in self.classes:
+            self.add(Folder(held.path))
 
     def tell_of(self, name: str, text: str) -> None:
         """What an office says, with the class before each line. Some of its lines have the time already."""
@@ -143,16 +182,17 @@ class WebOffice:
                 self.tell(f"{name}: {line}")
 
     def keep_board(self) -> None:
-        """Keeps the board up to date until the end, and notes when devices were heard."""
+        """Keeps the board up to date until the end, and notes when devices were heard: in the first class's folder, which may
+        hang, too."""
+        devices = SideBySide[None]()
         while not self.is_ending.wait(TICK):
             folder = next((one.room.folder.path for one in self.classes.values()), "")
             # A fault leaves a trace, and the next round comes all the same.
             with contextlib.suppress(Fault), guarded(folder):
-                for name in [name for name, one in self.classes.items() if one.room.register.is_another()]:
-                    self.take_away(name)
                 if self.live_board:
                     self.live_board.round()
-                self.gate.note_heard()
+                if self.gate.is_to_be_noted():
+                    devices.answers({DEVICES_FILE: self.gate.note_heard})
                 self.follow_address()
 
     def follow_address(self) -> None:

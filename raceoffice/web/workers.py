@@ -9,7 +9,7 @@ from collections.abc import Callable
 from concurrent.futures import Future, ThreadPoolExecutor
 from typing import TypeVar
 
-# How many threads each role has, and so have strangers. So many requests of one device, or of the strangers at one address,
+# How many threads each role has for each class and for all else, and so have strangers. So many requests of one device, or of the strangers at one address,
 # have a thread or wait in line for one.
 THREADS, AT_ONCE = 10, 3
 Done = TypeVar("Done")
@@ -23,16 +23,16 @@ class Turns:
 
 
 class Workers:
-    """Does what requests ask for. No role waits for the requests of another, and others of a role wait for a few of each
-    device, however many that has sent: the rest of them wait without a thread."""
+    """Does what requests ask for. No role waits for the requests of another, nor for those about another class, which may hang.
+    Others of a role wait for a few of each device, however many that has sent: the rest of them wait without a thread."""
 
     def __init__(self) -> None:
         self.pools = collections.defaultdict[str, ThreadPoolExecutor](functools.partial(ThreadPoolExecutor, THREADS))
         # Of those devices alone that have a turn
         self.turns: dict[str, Turns] = {}
 
-    async def outcome(self, role: str, name: str, work: Callable[[], Done]) -> Done:
-        """What comes of it, in a thread of a role, once it is its turn among what the device of that name has asked for."""
+    async def outcome(self, pool: str, name: str, work: Callable[[], Done]) -> Done:
+        """What comes of it, in a thread of a pool, once it is its turn among what the device of that name has asked for there."""
         await self.take_turn(name)
         loop = asyncio.get_running_loop()
 
@@ -42,7 +42,7 @@ class Workers:
                 loop.call_soon_threadsafe(self.end_turn, name)
 
         try:
-            doing = self.pools[role].submit(work)
+            doing = self.pools[pool].submit(work)
         except BaseException:
             # The system has no thread just now.
             self.end_turn(name)

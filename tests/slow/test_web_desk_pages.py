@@ -322,6 +322,30 @@ class Desks(WebTrial):
         kept = [self.text("cup", "kept", name) for name in os.listdir(os.path.join(self.here, "cup", "kept"))]
         self.assertIn(self.text("cup", "journal.txt"), kept)
 
+    def test_an_office_whose_window_is_killed(self) -> None:
+        """The page offers no end of it, which would do nothing, but to open it: that takes it over."""
+        scorer = self.device("scorer", "Bea’s laptop")
+        scorer.click("#tab-office")
+        scorer.press("Close the office for today")
+        scorer.choose("yes")
+        scorer.until("!!document.querySelector('.chip.bad')")
+        window = self.open()
+        self.shown(scorer, "A window at the office’s computer keeps this office.", "Close the office for today")
+        window.process.kill()
+        window.process.wait()
+        self.shown(scorer, "The window that kept this office has gone", "Open the office")
+        scorer.press("Open the office")
+        scorer.until("!!document.querySelector('.chip.good') && !document.querySelector('.waits')")
+        self.assertEqual(scorer.texts(".acts button"), ["Close the office for today"])
+
+    def shown(self, scorer: Device, words: str, button: str) -> None:
+        """Waits until the page of offices says so, with this button alone."""
+        def is_shown() -> bool:
+            scorer.click("#tab-office")
+            return words in "".join(scorer.texts(".waits"))
+        helpers.until(words, is_shown)
+        self.assertEqual(scorer.texts(".acts button"), [button])
+
 
 class TwoClasses(WebTrial):
     """A scorer's and a jury's desk with two classes."""

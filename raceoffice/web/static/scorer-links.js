@@ -159,13 +159,32 @@ function timedWords(name, said) {
   return time ? `${time} ${words.replace(/^\d\d:\d\d(:\d\d)? /, "")}` : words;
 }
 
-function officeStep(one) {
-  const buttons = one.open
+// What there is to know of an office that this web doesn't keep
+function elsewhere(one) {
+  if (one.is_away) return text("office.away");
+  if (!one.open || one.is_kept_here) return "";
+  return text(one.has_window ? "office.joined" : "office.windowGone");
+}
+
+// An office whose window has gone is open, and is to be opened all the same: that takes it over.
+function officeButton(one) {
+  if (one.is_away) return null;
+  return one.open && one.has_window
     ? element("button", {type: "button", class: "bad", onclick: () => closeOffice(one.class)}, text("office.closeForToday"))
     : element("button", {type: "button", class: "main", onclick: () => openOffice(one.class)}, text("office.open"));
+}
+
+function stateWords(one) {
+  if (one.is_away) return text("office.stateAway");
+  return text(one.open ? "office.stateOpen" : "office.stateClosed");
+}
+
+function officeStep(one) {
+  const look = one.open && one.has_window ? "good" : "bad", words = elsewhere(one);
   return element("section", {class: "step", "data-key": one.class},
-    element("h2", {}, withClass(one.class, one.class), " ", element("span", {class: `chip ${one.open ? "good" : "bad"}`}, text(one.open ? "office.stateOpen" : "office.stateClosed"))),
-    element("pre", {class: "mono linktext", tabindex: "0", "aria-label": text("office.itsWords")}, one.said.slice(-14).map(said => timedWords(one.class, said)).join("\n")), one.open && !one.is_kept_here ? element("p", {class: "waits"}, text("office.joined")) : null, element("div", {class: "acts"}, buttons));
+    element("h2", {}, withClass(one.class, one.class), " ", element("span", {class: `chip ${look}`}, stateWords(one))),
+    element("pre", {class: "mono linktext", tabindex: "0", "aria-label": text("office.itsWords")}, one.said.slice(-14).map(said => timedWords(one.class, said)).join("\n")),
+    words ? element("p", {class: "waits"}, words) : null, element("div", {class: "acts"}, officeButton(one)));
 }
 
 // Has a series served that wasn't yet, as one whose results are final.
