@@ -138,9 +138,13 @@ def put_right(seat: Seat, meant: Unread, sail: str) -> None:
 
 
 def sail_for(seat: Seat, meant: Unread, words: list[str]) -> str:
-    """The boat that is meant for a place. What was typed of her sail may be left out: `101? ger`."""
-    text = "".join(words).upper() + meant.typed
-    return text if text in seat.facts.boats else boat_meant(words, seat.facts.boats, seat.facts.called)
+    """The boat that is meant for a place. What was typed of her sail may be left out, which leaves letters alone:
+    `101? ger`. `1? irl 1` is IRL1, whoever is IRL11."""
+    text, boats = "".join(words).upper(), seat.facts.boats
+    whole = text + meant.typed
+    if text not in boats and whole in boats and not any(map(str.isdigit, text)):
+        return whole
+    return boat_meant(words, boats, seat.facts.called)
 
 
 def may_send(seat: Seat, line: str, last: str, meant: Unread) -> bool:
