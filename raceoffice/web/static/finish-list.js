@@ -10,11 +10,13 @@ import {buzz} from "./finish-taps.js";
 
 // Milliseconds of a long press, and pixels of a swipe to the left
 const LONG = 700, SWIPE = 70, STILL = 12;
-const NEAR_END = 40;
+// So near is the end of the list that it is shown whole, also once the list is shorter by a banner.
+const NEAR_END = 40, NEAR_BANNER = 110;
 let rowsBefore = 0;
 
 export function drawList() {
-  const list = byId("list"), wasAtEnd = list.scrollTop + list.clientHeight > list.scrollHeight - NEAR_END;
+  const list = byId("list"), near = list.classList.contains("short") ? NEAR_BANNER : NEAR_END;
+  const wasAtEnd = list.scrollTop + list.clientHeight > list.scrollHeight - near;
   const lists = each(page.classes, (one, place) => page.races[one.class] ? rowsOf(one, place) : []);
   const rows = merged(lists);
   fill(list, rows.map(row => row.node), each(queue.items.filter(isLeft), leftRow));

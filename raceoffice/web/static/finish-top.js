@@ -45,6 +45,7 @@ function drawBanner() {
     level: () => text("finish.tapLevelWith", {sail: whom()}), before: () => text("finish.tapAheadOf", {sail: whom()}),
     known: () => text("finish.tapWhoWas", {mark: whom()})}[kind];
   byId("banner").hidden = kind === "finish";
+  byId("list").classList.toggle("short", kind !== "finish");
   byId("banner").classList.toggle("code", kind === "code");
   fill(byId("banner"), words ? [element("span", {}, words()),
     element("button", {type: "button", onclick: () => setMode({kind: "finish"})}, text(kind === "round" ? "finish.done" : "common.cancel"))] : []);
