@@ -322,7 +322,7 @@ class Forgeries(ForgedPages):
         self.assertEqual(labels_of(views), wanted)
         page, front = notice(views), confirmed(listing(views), "2026-03-01T10:00:00+00:00", "open")
         for text, form in ((page, '<li><a href="#c[0-9]-class">(.*?)</a>'),
-                           (page, "<h1><small>[^<]*</small>Autumn Cup: (.*?)</h1>"), (page, "Overall results, (.*?): "), (page, "Rank after each race, (.*?)</caption>"),
+                           (page, "<h1><small>[^<]*</small> Autumn Cup: (.*?)</h1>"), (page, "Overall results, (.*?): "), (page, "Rank after each race, (.*?)</caption>"),
                            (front, '<h2><a href="[^"]*">(.*?)</a>')):
             self.assertEqual(re.findall(form, text), wanted, form)
         for text in (page, front):
@@ -345,7 +345,7 @@ class Forgeries(ForgedPages):
         """A title may be as that of another with her class: they are told apart in their headings, too."""
         views = self.called(("a", ""), ("b", "Dragon"), ("c", "Star"), titles=("Autumn: Dragon", "Autumn", "Autumn"))
         self.assertEqual(labels_of(views), ["Autumn: Dragon (a)", "Dragon (b)", "Star"])
-        self.assertEqual(re.findall("<h1><small>[^<]*</small>(.*?)</h1>", notice(views)),
+        self.assertEqual(re.findall("<h1><small>[^<]*</small> (.*?)</h1>", notice(views)),
                          ["Autumn: Dragon (a)", "Autumn: Dragon (b)", "Autumn: Star"])
         status, said = self.said(notice(views))
         self.assertEqual(status, 0, said)
@@ -480,7 +480,7 @@ class Forgeries(ForgedPages):
 
     def test_quoted_space(self) -> None:
         """What looks as a space that isn't broken, and is no space, is shown by its number."""
-        self.assertIn(r"'GBR 101 A. Mo\u2423ss'", self.said(self.made["results"].replace(">A. Moss<", ">A. Mo\u2423ss<", 1))[1])
+        self.assertIn(r"'GBR 101, A. Mo\u2423ss'", self.said(self.made["results"].replace(">A. Moss<", ">A. Mo\u2423ss<", 1))[1])
 
     def test_progress(self) -> None:
         """While it scores, the terminal shows no word of the page."""
