@@ -495,6 +495,9 @@ class Forgeries(ForgedPages):
                              ("Mo\U0001d159ss", True), ("M\ua670oss", True), ("M" + "\u1dc0" * 4, True),
                              ("\u0e01" + "\u0e49" * 4, True), ("\u0e01\u0e34\u0e49", False),
                              ("Mo\U0001bc9dss", True), ("Mo\u2d7fss", True),
+                             ("\u0915" + "\u093e" * 9, True), ("\u1112" + "\u1161" * 13, True), ("\u0e01" + "\u0e33" * 9, True),
+                             ("\u0ea5\u0eb3" * 9, False), ("\u1112\u1161\u11ab" * 9, False), ("\u0e19\u0e49\u0e33" * 9, False),
+                             ("Mo\U00013441ss", True), ("Mo\U00013442ss", True),
                              ("\u05e9\u05c1\u05bc\u05b8\u05dc\u05d5\u05b9\u05dd", False),
                              ("Jürgen", False), ("Ju\u0308rgen", False), ("名取", False), ("Ó Ríoráin", False)]:
             with self.subTest(text=text):

@@ -293,7 +293,7 @@ def bewares(view: Snapshot) -> list[str]:
     texts = [view.name, shown.title, shown.group, shown.club, shown.reason]
     texts += [text for boat in view.boats.values() for text in (boat.helm, boat.name, boat.club)]
     texts += rows_of(view.decided.text)
-    odd = [f"{quoted(text)} has a sign that isn't seen, or that turns or strikes others"
+    odd = [f"{quoted(text)} has a sign that isn't seen, or that turns, strikes or pushes others"
            for text in texts if characters.has_odd(text)]
     return [*first_ones(stale(view.decided), "decisions"), *first_ones(odd, "texts")]
 
