@@ -43,6 +43,9 @@ NEWER = re.compile("[\u0897-\u089f\u08ca-\u08d2\u0c3c\u1715\u1ac1-\u1ace\u1dfa\u
                    "\U00010efc-\U00010eff\U00010f82-\U00010f85\U00011070\U00011380-\U000113ff\U00011f41\U00011f42"
                    "\U00016100-\U0001613f\U00016d40-\U00016d7f\U0001cc00-\U0001cebf\U0001e030-\U0001e06d\U0001e08f"
                    "\U0001e2ae\U0001e4ec-\U0001e4ef\U0001e5d0-\U0001e5ff]")
+# The blocks of what is written from right to left, and those of Unicode after 3.2 with signs that are turned among it.
+RIGHT_TO_LEFT = re.compile("[\u0590-\u08ff\ufb1d-\ufdff\ufe70-\ufeff\U00010800-\U00010fff\U0001e800-\U0001efff]")
+TURNED = re.compile("[\u27c0-\u27ef\u2b00-\u2bff\u2e00-\u2e7f]")
 # It calls this one a dash.
 SOFT_HYPHEN = "\u00ad"
 
@@ -136,6 +139,18 @@ def in_one_form(text: str) -> str:
     parted = text.translate({ord(sign): unicodedata.normalize("NFKD", sign) for sign in set(text) if not is_newer(sign)})
     marks = "".join(filter(place_of_mark, set(parted)))
     return re.sub(f"[{re.escape(marks)}]{{2,}}", in_order, parted) if marks else parted
+
+
+def is_right_to_left(text: str) -> bool:
+    """Whether a text has a sign that is written from right to left. Then digits, brackets and other letters of it are shown
+    in another order than they are in: so `1` and a Hebrew letter look as the letter and `1`."""
+    return RIGHT_TO_LEFT.search(text) is not None
+
+
+def in_no_order(text: str) -> str:
+    """The signs of a text, in whatever order they are and whichever way they are turned."""
+    turned = {ord(sign): "(" for sign in set(text) if OF_ALL.mirrored(sign) or TURNED.match(sign)}
+    return "".join(sorted(text.translate(turned)))
 
 
 def in_order(marks: re.Match[str]) -> str:

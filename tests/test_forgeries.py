@@ -363,6 +363,20 @@ class Forgeries(ForgedPages):
         status, said = self.said(notice(views))
         self.assertEqual(status, 0, said)
 
+    def test_right_to_left(self) -> None:
+        """Digits, brackets and other letters are shown in another order beside letters that are written from right to left:
+        what may look the same is told apart by folders, and names that don't are as they are."""
+        for one, other in (("\u05d01", "1\u05d0"), ("\u05d0 1", "1 \u05d0"), ("A\u05d01", "A1\u05d0"), ("(\u05d1)\u05d2", "\u05d2(\u05d1)"),
+                           ("\u0627-1", "1-\u0627"), ("\U0001e9001", "1\U0001e900"), ("\u05d0\u2e021", "1\u2e03\u05d0")):
+            with self.subTest(one=one):
+                views = self.called(("1", one), ("2", other), ("x", "Star"))
+                self.assertEqual(labels_of(views), [f"{one} (folder 1)", f"{other} (folder 2)", "Star"])
+                for page in (notice(views), confirmed(listing(views), "2026-03-01T10:00:00+00:00", "open")):
+                    self.assertEqual(self.said(page)[0], 0)
+        self.assertEqual(labels_of(self.called(("\u05d01", "A"), ("1\u05d0", "A"))), ["A (%D7%901)", "A (1%D7%90)"])
+        honest = ["\u05db\u05d9\u05ea\u05d4 1", "\u05db\u05d9\u05ea\u05d4 2", "\u0641\u0626\u0629 (1)", "\u0641\u0626\u0629"]
+        self.assertEqual(labels_of(self.called(*zip("abcd", honest))), honest)
+
     def test_long_names(self) -> None:
         """Each name is looked at once to tell series apart, and marks without end keep nobody waiting."""
         marks, same = (f"A{one * 50_000}{other * 50_000}" for one, other in (("\u0315", "\u0316"), ("\u0316", "\u0315")))
