@@ -570,6 +570,15 @@ class Forgeries(ForgedPages):
         self.assertEqual(len(kept), 20)
         self.assertLess(tracemalloc.get_traced_memory()[0], 800 * 20 * len(sails))
 
+    def test_memory_of_pages(self) -> None:
+        """A long page is put together with few copies of it, each of which takes four bytes a sign if one is beyond U+FFFF."""
+        long = dataclasses.replace(self.tide, settings=dataclasses.replace(self.tide.settings, reason="\U0001f600" + "x" * 4_000_000))
+        size = sys.getsizeof(notice([long]))
+        tracemalloc.start()
+        self.addCleanup(tracemalloc.stop)
+        notice([long])
+        self.assertLess(tracemalloc.get_traced_memory()[1], 4 * size)
+
     def test_time(self) -> None:
         """What isn't a page is found out in a second, however it is written."""
         page = self.made["results"]

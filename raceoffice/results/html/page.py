@@ -211,13 +211,13 @@ def framed(title: str, live: str, every: int, version: str, now: str, body: Mark
         tag("meta", name="viewport", content="width=device-width, initial-scale=1"),
         tag("meta", name="color-scheme", content="light dark"), tag("title", title),
         raw("style", assets.style() + style), refresh], "\n")
-    parts = separated([
-        "", tag("a", "To the table", class_="skip", href=f"#{table}"), alarm,
-        tag("p", class_="once", id="once", hidden=True), together(beware, body),
-        script(), ""], "\n")
+    skip = tag("a", "To the table", class_="skip", href=f"#{table}")
+    once = tag("p", class_="once", id="once", hidden=True)
+    # A page may be long: what is put together here has no name, so that it isn't held longer than it takes.
     return document(tag(
-        "html", "\n", tag("head", head), "\n", tag("body", parts), "\n", lang="en", data_live=live,
-        data_every=every, **UNCONFIRMED, data_version=version, data_now=now))
+        "html", "\n", tag("head", head), "\n",
+        tag("body", separated(["", skip, alarm, once, together(beware, body), script(), ""], "\n")), "\n", lang="en",
+        data_live=live, data_every=every, **UNCONFIRMED, data_version=version, data_now=now))
 
 
 def is_ours(path: str) -> bool:
