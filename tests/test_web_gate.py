@@ -20,7 +20,7 @@ from raceoffice.web import hosting
 from raceoffice.web.gate import Gate
 from raceoffice.web.hosting import Host, Hub, Waiting
 from raceoffice.web.rates import Rate
-from raceoffice.web.requests import HEAD, Reply, Request, Wrong, packed, request_of
+from raceoffice.web.requests import HEAD, Reply, Request, Wrong, hashed, packed, request_of
 from raceoffice.web.routes import Routes
 from raceoffice.web.web_office import WebOffice
 from web_devices import BOATS, READY, Device, Web, is_known, list_of, new_id
@@ -415,8 +415,8 @@ class Turns(unittest.IsolatedAsyncioTestCase):
 
 
 class Heads(unittest.TestCase):
-    """What reading a head costs the thread of all connections: of each about a millisecond, and less than three where other
-    programs have the processors, too."""
+    """What reading a head costs the thread of all connections: of each a small part of a millisecond, and less than three where
+    other programs have the processors, too."""
 
     def test_time(self) -> None:
         gate = Gate("")
@@ -430,6 +430,26 @@ class Heads(unittest.TestCase):
             head = f"GET {line} HTTP/1.1\r\nHost: 127.0.0.1\r\n{field}\r\n\r\n".encode()
             self.assertLess(len(head), HEAD)
             self.assertLess(min(self.spent(routes, head) for _ in range(30)), 0.003, (line[:20], field[:20]))
+
+    def test_cookies(self) -> None:
+        """Of a head full of cookies the last few of the role that is asked for are read, once."""
+        gate, summed = Gate(""), list[str]()
+        key = gate.new_key("FINISH")
+        own = gate.enter(Request("POST", "/", {}, "127.0.0.1"), "FINISH", key, "Ann")[0].partition(";")[0]
+        routes = Routes(WebOffice(gate, "/none", "http://127.0.0.1/", print))
+        others = "; ".join(f"office-{role}-{at:08x}={'A' * 43}" for at in range(80) for role in ("finish", "jury", "scorer"))
+        head = f"GET /office/finish/me HTTP/1.1\r\nHost: 127.0.0.1\r\nCookie: {others}; {own}; theme=dark\r\n\r\n"
+
+        def sum_of(text: str) -> str:
+            summed.append(text)
+            return hashed(text)
+
+        with mock.patch("raceoffice.web.requests.hashed", sum_of):
+            request = request_of(head.encode(), "127.0.0.1")
+            for _ in range(3):
+                self.assertEqual(routes.name_of(request), next(iter(gate.devices)))
+            self.assertGreater(routes.room_for(request), 0)
+        self.assertLessEqual(len(summed), 16)
 
     @staticmethod
     def spent(routes: Routes, head: bytes) -> float:

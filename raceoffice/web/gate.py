@@ -205,7 +205,7 @@ class Gate:
                 # It comes again.
                 self.devices.pop(before.mark, None)
             self.make_room(role)
-            own = [mark for _, _, mark in cookies_of(request, role)]
+            own = [mark for _, mark in request.cookies(role)]
             device = Device(hashed(cookie), role, self.free_name(plain_name(name) or role.lower(), own), now, now, 0,
                             request.address)
             self.devices[device.mark] = device
@@ -248,8 +248,7 @@ class Gate:
     def cookie(self, request: Request, role: str) -> str:
         """The cookie by which a device of a role is known; empty if it isn't. Its browser may have others, of other
         offices on this computer."""
-        known = ((value, mark) for _, value, mark in cookies_of(request, role) if mark in self.devices)
-        return next((value for value, mark in known if self.is_of_role(mark, role)), "")
+        return next((value for value, mark in request.cookies(role) if self.is_of_role(mark, role)), "")
 
     def is_of_role(self, mark: str, role: str) -> bool:
         device = self.devices.get(mark)
@@ -333,9 +332,3 @@ class Gate:
 
 def unknown() -> Wrong:
     return Wrong(401, "this device isn't known here: open the link of your role again")
-
-
-def cookies_of(request: Request, role: str) -> list[tuple[str, str, str]]:
-    """The cookies of a role that a request has. The name of an older package's has no more than the role."""
-    beginning = f"office-{role.lower()}"
-    return [cookie for cookie in request.cookies if cookie[0].startswith(beginning)]
