@@ -252,7 +252,7 @@ class Attacks(unittest.TestCase):
         """A long head or body is refused before it is read; a large body only a device may send."""
         for wanted, text in [(431, f"GET / HTTP/1.1\r\nHost: 127.0.0.1\r\nX: {'x' * 20_000}\r\n\r\n"),
                              (413, self.head("/office/in", 5000)), (413, self.head("/office/in", 10 ** 30)),
-                             (413, self.head(LINE, 300_000, self.finish.cookie)), (413, self.head(LINE, 5000)),
+                             (413, self.head(LINE, 17_000, self.finish.cookie)), (413, self.head(LINE, 5000)),
                              (413, self.head("/office/finish/list", 300_000, self.finish.cookie)),
                              (400, self.head("/office/in", -5)), (400, "GET  / HTTP/1.1\r\n\r\n"),
                              (400, "GET / HTTP/1.1\r\nHost: a\r\nHost: b\r\n\r\n"),
@@ -265,6 +265,21 @@ class Attacks(unittest.TestCase):
                              (400, "POST / HTTP/1.1\r\nHost: 127.0.0.1\r\nTransfer-Encoding: chunked\r\n\r\n"),
                              (400, "GET http://127.0.0.1/ HTTP/1.1\r\nHost: 127.0.0.1\r\n\r\n")]:
             self.assertEqual(self.sent(text), wanted, text[:60])
+
+    def test_bodies(self) -> None:
+        """Each address takes as much as it needs, and says so of more before that has come: a tap 16 KB, what may be about
+        all boats 256 KB, a list 5 MB. Nobody who comes has more than a stranger."""
+        jury = self.device("jury")
+        sizes = {(self.finish, "line/cup"): 16, (self.finish, "leave"): 16, (self.finish, "none"): 16, (self.finish, "in"): 4,
+                 (self.finish, "list"): 16, (jury, "line/cup"): 16, (jury, "preview/cup"): 16, (jury, "decide/cup"): 256,
+                 (jury, "correct/cup"): 16, (self.scorer, "line/cup"): 16, (self.scorer, "key"): 16, (self.scorer, "in"): 4,
+                 (self.scorer, "correct/cup"): 256, (self.scorer, "save/cup"): 256, (self.scorer, "list"): 5120}
+        for (device, name), most in sizes.items():
+            path = f"/office/{device.role}/{name}"
+            self.assertEqual(self.sent(self.head(path, (most << 10) + 1, device.cookie)), 413, path)
+            self.assertEqual(self.sent(self.head(path, most << 10, device.cookie) + "x" * (most << 10)), 403, path)
+        # Nobody reads what comes with a question.
+        self.assertEqual(self.sent(self.head("/office/finish/me", 5000, self.finish.cookie).replace("POST", "GET")), 413)
 
     def head(self, path: str, size: int, cookie: str = "") -> str:
         return (f"POST {path} HTTP/1.1\r\nHost: 127.0.0.1:{self.port}\r\nCookie: {cookie}\r\n"

@@ -44,8 +44,13 @@ STATIC = os.path.join(os.path.dirname(os.path.abspath(__file__)), "static")
 KINDS = {".html": "text/html", ".js": "text/javascript", ".css": "text/css", ".svg": "image/svg+xml",
          ".json": JSON, ".webmanifest": "application/manifest+json", ".png": "image/png"}
 PAGES = {role.lower(): f"{role.lower()}.html" for role in ROLES}
-# The most bytes of a body: of somebody whom nobody knows, of a device, and of one that sends a list.
-FOR_ALL, FOR_DEVICES, FOR_LISTS = 4 << 10, 256 << 10, 5 << 20
+# The most bytes of a body: of somebody whom nobody knows, of a tap and of most else that a device sends, of what may be about
+# all boats, and of a list. While JSON is read all threads stand still: at the finish nobody needs more than a tap has.
+FOR_ALL, FOR_TAPS, FOR_MUCH, FOR_LISTS = 4 << 10, 16 << 10, 256 << 10, 5 << 20
+# What each role sends to an address that takes more than a tap has.
+ROOMS = {("JURY", "decide"): FOR_MUCH, ("SCORER", "list"): FOR_LISTS, ("SCORER", "new"): FOR_LISTS} | {
+    ("SCORER", name): FOR_MUCH
+    for name in ("correct", "declare", "open", "remove", "reopen", "rules", "save", "settings", "sheet")}
 # What a line of each role may begin with beside the lines that it sends.
 OWN = {"UNDO", "ABANDON"}
 
@@ -83,10 +88,9 @@ class Routes:
 
     def room_for(self, request: Request) -> int:
         """How many bytes a request's body may have."""
-        device = self.sender(request)
-        if device is None:
-            return FOR_ALL
-        return FOR_LISTS if request.parts[2:3] in (["list"], ["new"]) and device.role == "SCORER" else FOR_DEVICES
+        device = self.sender(request) if request.method == "POST" else None
+        name = "".join(request.parts[2:3])
+        return FOR_ALL if device is None or name == "in" else ROOMS.get((device.role, name), FOR_TAPS)
 
     async def answer(self, request: Request) -> Reply | Waiting:
         self.gate.check_host(request)
