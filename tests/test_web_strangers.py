@@ -345,6 +345,16 @@ class Links(unittest.TestCase):
         self.assertRaisesRegex(Wrong, "as many devices as it may have", self.come, "one more")
         self.assertIn(boat, self.gate.devices)
 
+    def test_used_up(self) -> None:
+        """However many have come by a link, whoever has the new one comes in at once."""
+        self.gate.coming = Rate(3, 0.1)
+        for are_devices_out in (True, False):
+            with self.assertRaisesRegex(Wrong, "too many"):
+                for _ in range(4):
+                    self.come()
+            self.keys["FINISH"] = self.gate.new_key("FINISH", are_devices_out)
+            self.come("Ann")
+
     def test_link_that_ends_meanwhile(self) -> None:
         """Somebody comes by a link that ends while the gate is changed: it isn't valid any more."""
         ends: list[int] = []

@@ -164,14 +164,17 @@ class Gate:
 
     # Secrets and devices
 
-    def new_key(self, role: str, are_devices_out: bool = True) -> str:
+    def new_key(self, role: str, are_devices_out: bool = True, need: Callable[[], None] = lambda: None) -> str:
         """A new secret for a role, which is shown once. The old one isn't valid any more, and its devices are
-        put out, or stay."""
+        put out, or stay. However many have come by the old one, those who have the new one come in at once. `need` raises what
+        keeps it from being made once the gate is changed."""
         secret = secrets.token_urlsafe(16)
         with self.changing():
+            need()
             self.keys[role] = hashed(secret)
             if are_devices_out:
                 self.put_out([mark for mark, device in self.devices.items() if device.role == role])
+        self.coming.forget(role)
         return secret
 
     def put_out(self, marks: Iterable[str]) -> None:
@@ -179,12 +182,13 @@ class Gate:
         self.out |= {mark: self.devices.pop(mark).name for mark in marks}
         self.out = dict([*self.out.items()][-OUT:])
 
-    def revoke(self, mark: str, ends_link: bool = True) -> None:
+    def revoke(self, mark: str, ends_link: bool = True, need: Callable[[], None] = lambda: None) -> None:
         """Puts one device out; `mark` is the beginning of its own. A phone that was lost may have the link of its role still:
-        that ends, too."""
+        that ends, too. `need` raises what keeps it from being done once the gate is changed."""
         if len(mark) < MARK:
             return
         with self.changing():
+            need()
             found = [device for key, device in self.devices.items() if key.startswith(mark)]
             self.put_out([device.mark for device in found])
             for device in found if ends_link else ():
