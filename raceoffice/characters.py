@@ -10,13 +10,26 @@ from collections.abc import Callable
 # What Python calls printable and yet isn't seen, or lies over its neighbours: fillers, joiners, variants
 # of signs, strokes, what encloses letters, and marks of which three are over one letter.
 UNSEEN = re.compile("[\u034f\u115f\u1160\u17b4\u17b5\u180b-\u180f\u2800\u3164\ufe00-\ufe0f\uffa0\ufffc"
-                    "\U00016fe4\U0001d159\U000e0100-\U000e01ef\u0334-\u0338\u0488\u0489\u1abe\u20d0-\u20f0"
+                    "\U00013441\U00013442\U00016fe4\U0001d159\U000e0100-\U000e01ef\u0334-\u0338\u0488\u0489\u1abe\u20d0-\u20f0"
                     "\ua670-\ua672\u1cd4\u1ce2-\u1ce8\U00010a39\U00016af0-\U00016af4\U0001bc9e"
                     "\U0001d167-\U0001d169]"
                     "|(?<=[\u0300-\u036f]{2})[\u0300-\u036f]")
-# Where marks may be piled up: more of them than any writing has over one letter lie over the lines around.
-PILE = re.compile(r"[^\w\x00-\x7f]{4,}")
-MOST_MARKS = 3
+# Signs that join others, beside the marks over a letter (o) and beside it (m): vowels of Thai and Lao and what else comes
+# after a letter as marks do, what joins two letters into one (k), the parts of Korean syllables (l, v, t, and s for whole
+# ones), and what joins the letter behind it (p).
+JOINS = [(kind, re.compile(f"[{signs}]")) for kind, signs in (
+    ("m", "\u0e33\u0eb3\uff9e\uff9f\U0001f3fb-\U0001f3ff"),
+    ("k", "\u094d\u09cd\u0acd\u0b4d\u0c4d\u0d4d\u1039\u17d2\u1a60\u1b44\u1bab\ua9c0\uaaf6\U00010a3f\U00011133\U000113d0"
+          "\U0001193e\U00011a47\U00011a99\U00011f42"),
+    ("l", "\u1100-\u115f\ua960-\ua97c"), ("v", "\u1160-\u11a7\ud7b0-\ud7c6\U00016d63\U00016d67-\U00016d6a"),
+    ("t", "\u11a8-\u11ff\ud7cb-\ud7fb"), ("s", "\uac00-\ud7a3"),
+    ("p", "\u0d4e\U000111c2\U000111c3\U000113d1\U0001193f\U00011941\U00011a3a\U00011a84-\U00011a89\U00011d46\U00011f02"))]
+# Marks after what joins two letters belong to that. Any other sign is a letter (c).
+JOINING = re.compile("k[om]+")
+# More signs than any writing makes one letter of. Four marks over a letter lie over the lines around it. No line is
+# broken in a letter: one with nine marks, nine parts of a kind, or twelve signs that join pushes off a page what is
+# beside it.
+PILE = re.compile(r"[ok]{4,}|[okm]{9,}|([lvtp])\1{8,}|(?:[okm]|(?<=p)[^ ]|(?<=l)[lvs]|(?<=[vs])[vt]|(?<=t)t|(?<=k)c){12}")
 # Signs of a line that is said, and of what is quoted; longer ones are cut.
 MOST, QUOTED = 100, 60
 # A sign that stands for a space.
@@ -30,6 +43,9 @@ NEWER = re.compile("[\u0897-\u089f\u08ca-\u08d2\u0c3c\u1715\u1ac1-\u1ace\u1dfa\u
                    "\U00010efc-\U00010eff\U00010f82-\U00010f85\U00011070\U00011380-\U000113ff\U00011f41\U00011f42"
                    "\U00016100-\U0001613f\U00016d40-\U00016d7f\U0001cc00-\U0001cebf\U0001e030-\U0001e06d\U0001e08f"
                    "\U0001e2ae\U0001e4ec-\U0001e4ef\U0001e5d0-\U0001e5ff]")
+# The blocks of what is written from right to left, and those of Unicode after 3.2 with signs that are turned among it.
+RIGHT_TO_LEFT = re.compile("[\u0590-\u08ff\ufb1d-\ufdff\ufe70-\ufeff\U00010800-\U00010fff\U0001e800-\U0001efff]")
+TURNED = re.compile("[\u27c0-\u27ef\u2b00-\u2bff\u2e00-\u2e7f]")
 # It calls this one a dash.
 SOFT_HYPHEN = "\u00ad"
 
@@ -71,13 +87,23 @@ def script_of(sign: str) -> str:
     return unicodedata.name(sign, "").partition(" ")[0] if sign else ""
 
 
+def kind_of(sign: str) -> str:
+    """How a sign joins the others of a letter."""
+    if found := next((kind for kind, signs in JOINS if signs.match(sign)), ""):
+        return found
+    category = unicodedata.category(sign)
+    return "o" if category in ("Mn", "Me") else "m" if category == "Mc" else " " if sign.isspace() else "c"
+
+
+def kinds_of(text: str) -> str:
+    """How each sign of a text joins the others."""
+    kinds = text.translate({ord(sign): kind_of(sign) for sign in set(text)})
+    return JOINING.sub(lambda found: "k" * len(found[0]), kinds)
+
+
 def is_piled(text: str) -> bool:
-    """Whether a letter has more marks than any writing puts on one."""
-    for found in PILE.finditer(text):
-        marks = "".join("m" if unicodedata.category(sign) in ("Mn", "Me") else " " for sign in found[0])
-        if "m" * (MOST_MARKS + 1) in marks:
-            return True
-    return False
+    """Whether a letter is of more signs than any writing makes one of."""
+    return not text.isascii() and PILE.search(kinds_of(text)) is not None
 
 
 # What is the same in every Python
@@ -115,6 +141,18 @@ def in_one_form(text: str) -> str:
     return re.sub(f"[{re.escape(marks)}]{{2,}}", in_order, parted) if marks else parted
 
 
+def is_right_to_left(text: str) -> bool:
+    """Whether a text has a sign that is written from right to left. Then digits, brackets and other letters of it are shown
+    in another order than they are in: so `1` and a Hebrew letter look as the letter and `1`."""
+    return RIGHT_TO_LEFT.search(text) is not None
+
+
+def in_no_order(text: str) -> str:
+    """The signs of a text, in whatever order they are and whichever way they are turned."""
+    turned = {ord(sign): "(" for sign in set(text) if OF_ALL.mirrored(sign) or TURNED.match(sign)}
+    return "".join(sorted(text.translate(turned)))
+
+
 def in_order(marks: re.Match[str]) -> str:
     """Marks in the order that Unicode gives them."""
     return "".join(sorted(marks[0], key=place_of_mark))
@@ -145,9 +183,15 @@ class Written(str):
 # What is shown
 
 def replaced(text: str, by: Callable[[str], str]) -> str:
-    """A text in which each sign that isn't seen, or is one of a pile of marks, is replaced."""
+    """A text in which each sign that isn't seen, or is one of a pile of them, is replaced."""
     seen = UNSEEN.sub(lambda found: by(found[0]), text)
-    return PILE.sub(lambda found: "".join(map(by, found[0])) if is_piled(found[0]) else found[0], seen)
+    if seen.isascii():
+        return seen
+    parts, at = list[str](), 0
+    for found in PILE.finditer(kinds_of(seen)):
+        parts += [seen[at:found.start()], *map(by, seen[found.start():found.end()])]
+        at = found.end()
+    return "".join([*parts, seen[at:]])
 
 
 def code_of(sign: str) -> str:

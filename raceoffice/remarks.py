@@ -357,6 +357,7 @@ ENGLISH: dict[str, str | tuple[str, str] | tuple[str, str, str]] = {
     "finisher-unwritten": "{name} can't be written: {why}. Write her down on paper",
     "places-unread": "office/places can't be read",
     "places-several": "more than one place is kept: type {marks:or} and her sail",
+    "places-most": "race {race} keeps {kept} places, more than boats are entered: say first who was there, or that nobody was",
     "places-among": "race {race} keeps places among these boats: {marks}. Say first who was there. Or move the boats ahead of a place by "
                     "themselves, and then those behind it: the place stays in race {race}",
     "no-place": "no finisher {mark} is kept in race {race}",

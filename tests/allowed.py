@@ -33,7 +33,7 @@ ALLOWED: dict[str, dict[str, str]] = {
              "content": "60|light dark|width=device-width, initial-scale=1"},
     "main": MARK, "section": {**MARK, "id": IDS}, "nav": {"aria-label": "Classes|Races"},
     "ul": {**MARK, "id": "table"}, "li": {**MARK, "id": IDS}, "dl": MARK, "dt": {}, "dd": {},
-    "h1": {}, "h2": {"id": IDS}, "small": {}, "b": {}, "i": {}, "s": {}, "em": {}, "summary": {},
+    "h1": {}, "h2": {"id": IDS}, "small": {}, "b": {}, "i": MARK, "s": {}, "em": {}, "summary": {},
     "details": {}, "p": {**MARK, "id": IDS, "role": "alert", "hidden": ""},
     "a": {**MARK, "href": HREF, "aria-current": "true|page", "aria-label": "Race [0-9]+|tie, note [a-z]+"},
     "span": {**MARK, "id": IDS, "role": "status"}, "del": MARK, "abbr": {**MARK, "title": FREE},

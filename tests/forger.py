@@ -10,7 +10,7 @@ import os
 import re
 import subprocess
 import unittest.mock
-from collections.abc import Callable, Iterator
+from collections.abc import Callable, Iterator, Sequence
 from typing import Any
 
 import helpers
@@ -176,10 +176,10 @@ def remembered() -> Iterator[None]:
         yield
 
 
-def journal_of(folder: str, *lines: str) -> str:
+def journal_of(folder: str, *lines: str, options: Sequence[str] = ()) -> str:
     """The journal of these lines, as the program writes it."""
     done = subprocess.run(
-        [helpers.PROGRAM, "replay", "--print", "journal", "--entries",
+        [helpers.PROGRAM, "replay", *options, "--print", "journal", "--entries",
          os.path.join(folder, "entries.csv")], input="\n".join([*lines, "QUIT", ""]),
         capture_output=True, text=True, check=True)
     assert "NO " not in done.stdout, done.stdout

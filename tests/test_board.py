@@ -389,7 +389,7 @@ class Boards(helpers.Series):
                      "SCORE 1", "FINISH 2 C3", "FINISH 2 B2", "FINISH 2 A1", "FINISH 2 D4",
                      "TIE 2 E5 D4", "SCORE 2", name="ties")
         helpers.run("board", "ties", "--page", "out", "--once", cwd=self.here)
-        notes = re.findall('<li id="tie-(.)"><b>(.)</b>(.*?)</li>',
+        notes = re.findall('<li id="tie-(.)"><b>(.) </b>(.*?)</li>',
                            self.text("out", "ties", "index.html"))
         self.assertEqual(notes, [
             ("a", "a", "4.0 points each. C 3 beats A 1 on A8.2: their counting scores are "

@@ -322,7 +322,7 @@ class Forgeries(ForgedPages):
         self.assertEqual(labels_of(views), wanted)
         page, front = notice(views), confirmed(listing(views), "2026-03-01T10:00:00+00:00", "open")
         for text, form in ((page, '<li><a href="#c[0-9]-class">(.*?)</a>'),
-                           (page, "<h1><small>[^<]*</small>Autumn Cup: (.*?)</h1>"), (page, "Overall results, (.*?): "), (page, "Rank after each race, (.*?)</caption>"),
+                           (page, "<h1><small>[^<]*</small> Autumn Cup: (.*?)</h1>"), (page, "Overall results, (.*?): "), (page, "Rank after each race, (.*?)</caption>"),
                            (front, '<h2><a href="[^"]*">(.*?)</a>')):
             self.assertEqual(re.findall(form, text), wanted, form)
         for text in (page, front):
@@ -345,7 +345,7 @@ class Forgeries(ForgedPages):
         """A title may be as that of another with her class: they are told apart in their headings, too."""
         views = self.called(("a", ""), ("b", "Dragon"), ("c", "Star"), titles=("Autumn: Dragon", "Autumn", "Autumn"))
         self.assertEqual(labels_of(views), ["Autumn: Dragon (a)", "Dragon (b)", "Star"])
-        self.assertEqual(re.findall("<h1><small>[^<]*</small>(.*?)</h1>", notice(views)),
+        self.assertEqual(re.findall("<h1><small>[^<]*</small> (.*?)</h1>", notice(views)),
                          ["Autumn: Dragon (a)", "Autumn: Dragon (b)", "Autumn: Star"])
         status, said = self.said(notice(views))
         self.assertEqual(status, 0, said)
@@ -362,6 +362,20 @@ class Forgeries(ForgedPages):
         self.assertEqual(labels_of(self.called(("a", newer[0]), ("b", newer[1]))), newer)
         status, said = self.said(notice(views))
         self.assertEqual(status, 0, said)
+
+    def test_right_to_left(self) -> None:
+        """Digits, brackets and other letters are shown in another order beside letters that are written from right to left:
+        what may look the same is told apart by folders, and names that don't are as they are."""
+        for one, other in (("\u05d01", "1\u05d0"), ("\u05d0 1", "1 \u05d0"), ("A\u05d01", "A1\u05d0"), ("(\u05d1)\u05d2", "\u05d2(\u05d1)"),
+                           ("\u0627-1", "1-\u0627"), ("\U0001e9001", "1\U0001e900"), ("\u05d0\u2e021", "1\u2e03\u05d0")):
+            with self.subTest(one=one):
+                views = self.called(("1", one), ("2", other), ("x", "Star"))
+                self.assertEqual(labels_of(views), [f"{one} (folder 1)", f"{other} (folder 2)", "Star"])
+                for page in (notice(views), confirmed(listing(views), "2026-03-01T10:00:00+00:00", "open")):
+                    self.assertEqual(self.said(page)[0], 0)
+        self.assertEqual(labels_of(self.called(("\u05d01", "A"), ("1\u05d0", "A"))), ["A (%D7%901)", "A (1%D7%90)"])
+        honest = ["\u05db\u05d9\u05ea\u05d4 1", "\u05db\u05d9\u05ea\u05d4 2", "\u0641\u0626\u0629 (1)", "\u0641\u0626\u0629"]
+        self.assertEqual(labels_of(self.called(*zip("abcd", honest))), honest)
 
     def test_long_names(self) -> None:
         """Each name is looked at once to tell series apart, and marks without end keep nobody waiting."""
@@ -480,7 +494,7 @@ class Forgeries(ForgedPages):
 
     def test_quoted_space(self) -> None:
         """What looks as a space that isn't broken, and is no space, is shown by its number."""
-        self.assertIn(r"'GBR 101 A. Mo\u2423ss'", self.said(self.made["results"].replace(">A. Moss<", ">A. Mo\u2423ss<", 1))[1])
+        self.assertIn(r"'GBR 101, A. Mo\u2423ss'", self.said(self.made["results"].replace(">A. Moss<", ">A. Mo\u2423ss<", 1))[1])
 
     def test_progress(self) -> None:
         """While it scores, the terminal shows no word of the page."""
@@ -495,6 +509,9 @@ class Forgeries(ForgedPages):
                              ("Mo\U0001d159ss", True), ("M\ua670oss", True), ("M" + "\u1dc0" * 4, True),
                              ("\u0e01" + "\u0e49" * 4, True), ("\u0e01\u0e34\u0e49", False),
                              ("Mo\U0001bc9dss", True), ("Mo\u2d7fss", True),
+                             ("\u0915" + "\u093e" * 9, True), ("\u1112" + "\u1161" * 13, True), ("\u0e01" + "\u0e33" * 9, True),
+                             ("\u0ea5\u0eb3" * 9, False), ("\u1112\u1161\u11ab" * 9, False), ("\u0e19\u0e49\u0e33" * 9, False),
+                             ("Mo\U00013441ss", True), ("Mo\U00013442ss", True),
                              ("\u05e9\u05c1\u05bc\u05b8\u05dc\u05d5\u05b9\u05dd", False),
                              ("Jürgen", False), ("Ju\u0308rgen", False), ("名取", False), ("Ó Ríoráin", False)]:
             with self.subTest(text=text):
@@ -552,6 +569,15 @@ class Forgeries(ForgedPages):
         gc.collect()
         self.assertEqual(len(kept), 20)
         self.assertLess(tracemalloc.get_traced_memory()[0], 800 * 20 * len(sails))
+
+    def test_memory_of_pages(self) -> None:
+        """A long page is put together with few copies of it, each of which takes four bytes a sign if one is beyond U+FFFF."""
+        long = dataclasses.replace(self.tide, settings=dataclasses.replace(self.tide.settings, reason="\U0001f600" + "x" * 4_000_000))
+        size = sys.getsizeof(notice([long]))
+        tracemalloc.start()
+        self.addCleanup(tracemalloc.stop)
+        notice([long])
+        self.assertLess(tracemalloc.get_traced_memory()[1], 4 * size)
 
     def test_time(self) -> None:
         """What isn't a page is found out in a second, however it is written."""

@@ -12,8 +12,9 @@ from unittest import mock
 import helpers
 from on_water import OnWater, lines_of_swap
 from raceoffice.errors import NotSent
-from raceoffice.remarks import remark
+from raceoffice.remarks import Remark, remark
 from raceoffice.series.folder import Folder
+from raceoffice.session.finishers import MORE
 from raceoffice.web.corrections import correct
 from raceoffice.web.finish_order import Elsewhere
 from raceoffice.web.room import Room
@@ -463,6 +464,51 @@ class AsRecorded(OnWater):
             self.assertRaises(KeyboardInterrupt, self.room.do, "FINISH", "Ann", tap)
         self.room.close()
         self.room = self.phone.room = Room(Folder(os.path.join(self.here, "cup")), lambda: None)
+
+
+class Most(OnWater):
+    """A race keeps a place for each boat at once, and for some more."""
+
+    def setUp(self) -> None:
+        super().setUp()
+        self.room.look()
+        self.window_bob.session.look()
+        self.most = len({*self.room.facts.boats, *self.room.facts.names}) + MORE
+        for at in range(self.most):
+            device = self.window_bob if at % 5 == 1 else self.phone
+            self.assertIsNotNone(device.send(1, f"{200 + at}? 1" if at % 5 == 2 else "? 1"), at)
+
+    def refused(self, line: str, undoes: str = "") -> str:
+        """The kind of what keeps a tap from being done; empty if nothing does."""
+        try:
+            self.room.do("FINISH", "Ann", Tap.read({"id": new_id(), "line": line, "undoes": undoes}))
+        except NotSent as why:
+            return why.said[0].kind if isinstance(why.said[0], Remark) else "?"
+        return ""
+
+    def test_refused(self) -> None:
+        """One more is refused, on a page and in a window, whatever was typed of her, and nothing is noted of her. Another race
+        has room."""
+        noted, taps = self.text("cup", "office", "places"), self.text("cup", "office", "web.taps")
+        self.assertEqual([self.refused(line) for line in ("? 1", "102? 1", "GBR10? 1")], ["places-most"] * 3)
+        session = self.window_bob.session
+        session.at = 1
+        for typed in ("?", "102?", "999"):
+            self.assertRaisesRegex(NotSent, f"race 1 keeps {self.most} places, more than boats are entered", session.do, typed)
+        self.assertEqual((self.text("cup", "office", "places"), self.text("cup", "office", "web.taps")), (noted, taps))
+        self.assertEqual(self.refused("? 2"), "")
+
+    def test_room_again(self) -> None:
+        """Once somebody is known, or it is said that nobody was there, there is room for one more; then that isn't taken back."""
+        self.assertIsNotNone(self.phone.send(1, "?1 1 GBR7"))
+        self.assertEqual([self.refused("? 1"), self.refused("? 1")], ["", "places-most"])
+        dropped = self.phone.send(1, "?2 1 NONE")
+        assert dropped is not None
+        self.assertEqual(self.refused("? 1"), "")
+        self.assertEqual(self.refused("UNDO", dropped["id"]), "places-most")
+        self.assertIsNotNone(self.phone.send(1, "?4 1 NONE"))
+        self.assertEqual(self.refused("UNDO", dropped["id"]), "")
+        self.assertEqual(len(self.shown(1)["unread"]), self.most)
 
 
 if __name__ == "__main__":

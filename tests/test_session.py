@@ -26,8 +26,8 @@ class Sessions(helpers.Series):
         self.said: list[Said] = []
         self.agreed: set[str] = set()
 
-    def session(self, role: str) -> Session:
-        found = Session(Folder(os.path.join(self.here, "cup")), role, "Ann", self.said.append, self.ask)
+    def session(self, role: str, name: str = "cup") -> Session:
+        found = Session(Folder(os.path.join(self.here, name)), role, "Ann", self.said.append, self.ask)
         found.connect()
         self.addCleanup(found.disconnect)
         return found
@@ -99,6 +99,16 @@ class Sessions(helpers.Series):
         self.assertEqual(finish.do("race 1"), Outcome(True))
         self.assertEqual(set(self.kinds()), {SHOWN})
         self.assertRaises(NotSent, finish.do, "nothing at all")
+
+    def test_a_sail_and_what_was_typed(self) -> None:
+        """What was typed of a sail may be left out, and is added to nothing that is a sail by itself."""
+        self.make("ones", entries="Sail,Boat\nGBR 1,One\nIRL 1,Uno\nIRL 11,Eleven\nGBR 5,Five\nGBR 51,Late\n")
+        self.open("ones")
+        finish = self.session("FINISH", "ones")
+        for race, (words, sail) in enumerate([("irl 1", "IRL1"), ("irl", "IRL1"), ("irl 11", "IRL11"), ("gbr 5", "GBR5")], 1):
+            finish.do(f"at {race}")
+            self.assertEqual(finish.do("1").mark, "1?")
+            self.assertEqual(finish.do(f"1? {words}").line, f"FINISH {race} {sail}")
 
     def test_questions(self) -> None:
         """A question that nobody answers yet leaves everything as it is."""

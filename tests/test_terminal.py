@@ -91,6 +91,10 @@ class Several(unittest.TestCase):
 IGNORED = [(0x34f, 0x34f), (0x115f, 0x1160), (0x17b4, 0x17b5), (0x180b, 0x180f), (0x2065, 0x2065), (0x3164, 0x3164),
            (0xfe00, 0xfe0f), (0xffa0, 0xffa0), (0xfff0, 0xfff8), (0x1bca0, 0x1bca3), (0x1d173, 0x1d17a), (0xe0000, 0xe0fff)]
 
+HONEST = ["राजेश कुमार", "श्रीमती लक्ष्मीबाई", "कार्त्स्न्यों", "ज्योत्स्ना", "สมชาย น้ำเพชร", "ณัฏฐ์ เพ็ชรน้ำหนึ่ง", "ນ້ຳໃຈ ຄຳແກ້ວ", "Nguyễn Thị Hồng Ngọc",
+          "Đặng Ngữ", "김철수", "황보 혜진", "뷁쀍꿻뛟", "ကျွန်ုပ် မောင်မောင်", "សុវណ្ណារាជស្ត្រី", "བསྒྲུབས་", "ꦱꦿꦶꦩꦸꦭꦾꦤꦶ",
+          "சண்முகசுந்தரம்", "ശ്രീകൃഷ്ണൻ", "שָׁלוֹם", "مُحَمَّد", "👍🏽👍🏽👍🏽", "Zoë Kübler"]
+
 
 class Shown(unittest.TestCase):
     def test_visible(self) -> None:
@@ -116,6 +120,30 @@ class Shown(unittest.TestCase):
         self.assertEqual([hex(ord(sign)) for sign in signs if not characters.has_odd(f"Mo{sign}ss")], [])
         for name in ("\u1780\u17d2\u179a", "\u1019\u1039\u1019", "\u0e01\u0e34\u0e49", "\u0915\u094d\u0937", "Zoe\u0308"):
             self.assertFalse(characters.has_odd(name), name)
+
+    def test_unbroken(self) -> None:
+        """A letter of more signs than any writing makes one of is named, since no line is broken in it: it would push what
+        is beside it off a page."""
+        marks = [sign for sign in map(chr, range(0x110000)) if unicodedata.category(sign)[0] == "M"]
+        texts = [sign * 9 for sign in [*marks, *"\u0e33\u0eb3\uff9e\uff9f\U0001f3fb"]]
+        texts += [sign * 9 for sign in "\u1100\ua960\u1161\ud7b0\u11a8\ud7cb\u0d4e\U00011d46"]
+        texts += ["\u0915\u094d" * 7, "\u0915\u094d\u093c" * 5, "\u1780\u17d2" * 7, "\u0e33\u0903" * 5, "\u1100" * 6 + "\uac00" + "\u1161" * 4 + "\u11a8" * 4]
+        for text in texts:
+            self.assertTrue(characters.has_odd(f"\u0915{text}"), text)
+            self.assertFalse(characters.is_piled(characters.replaced(f"\u0915{text}", lambda _: "")), text)
+
+    def test_honest_names(self) -> None:
+        """No name as people write it is: from Hindi and Sanskrit, Thai, Lao, Korean, Vietnamese, Burmese, Khmer, Tibetan,
+        Javanese, Hebrew and Arabic, in whatever form of Unicode."""
+        for name in HONEST:
+            for form in ("NFC", "NFD"):
+                self.assertFalse(characters.has_odd(unicodedata.normalize(form, name)), (name, form))
+
+    def test_blanks(self) -> None:
+        """The blanks of hieroglyphs, which not each Python knows, aren't seen in any."""
+        for sign in "\U00013441\U00013442":
+            self.assertTrue(characters.has_odd(f"Dragon{sign}"))
+            self.assertEqual(characters.replaced(f"Dragon{sign}", lambda _: ""), "Dragon")
 
     def test_progress(self) -> None:
         """How far work is comes after two seconds, on a terminal alone, and goes at the end."""

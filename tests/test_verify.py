@@ -116,12 +116,12 @@ class Pages(helpers.Series):
         page = self.page()
         for old, new, why in [
                 ('<span class="p">1<i>.0</i>', '<span class="p">2<i>.0</i>',
-                 "row 1 ('GBR 101 A. Moss'), R1: the page has '2.0', and not '1.0'"),
+                 "row 1 ('GBR 101, A. Moss'), R1: the page has '2.0', and not '1.0'"),
                 ("<abbr class=\"kind\" title=\"discretionary penalty\">DPI", "<abbr>SCP",
                  "R3: the page has '(5.0) excluded SCP', and not '(5.0) excluded DPI'"),
                 ('class="m1">1</span>', 'class="m1">2</span>', "Rank: the page has '2', and not '1"),
                 ("A8.1", "A8.2", "the text"), (">Provisional<", ">Final<", "'Final' of the page has "),
-                ('helm">O. Roche', 'helm">O. Rocha', "the page has 'IRL 55 O. Rocha'"),
+                ('helm">O. Roche', 'helm">O. Rocha', "the page has 'IRL 55, O. Rocha'"),
                 ("font: 1rem", "font: 2rem", "no cell or text that differs was found, but line "),
                 ('"1 1 SCORER ENTER GBR101"', '"1 1 SCORER ENTER GBR102"',
                  "entry 1 isn't as it was written: '1 1 SCORER ENTER GBR102'"),
@@ -223,7 +223,7 @@ class Pages(helpers.Series):
     def test_wrong_tools(self) -> None:
         """If the package itself wrote a cell wrongly, and would do so again, the cell is named."""
         right = overall.cell
-        for was, now, why in [("3<i>.0", "4<i>.0", "('GBR 101 A. Moss')"), ("DNE", "DSQ", "('GBR 33 "),
+        for was, now, why in [("3<i>.0", "4<i>.0", "('GBR 101, A. Moss')"), ("DNE", "DSQ", "('GBR 33, "),
                               ("<s>)", "<s>", "")]:
             def wrong(score: Score) -> Markup:
                 return Markup(right(score).html.replace(was, now))
@@ -239,7 +239,7 @@ class Pages(helpers.Series):
             self.assertIn("row 2 (", self.odd(written))
 
     def test_alike(self) -> None:
-        """Sail and helm of one boat read as those of another, and each row is still the program's."""
+        """Sail and helm of one boat, with a blank between them, read as those of another, and each row is the program's."""
         folder = self.make("alike", "Sail,Helm\nGBR 7,1 Smith\nGBR 7 1,Smith\nGBR 9,Z\n", title="Autumn Cup")
         self.write(journal_of(folder, "FINISH 1 GBR71", "FINISH 1 GBR7", "FINISH 1 GBR9", "SCORE 1"), "alike", "journal.txt")
         self.verifier.verified(self.page("alike"))
@@ -248,7 +248,7 @@ class Pages(helpers.Series):
         """The list names three of the boats that share the first rank, and says how many others do."""
         sails = [f"GBR {number}" for number in range(1, 7)]
         self.make("even", "\n".join(["Sail", *sails, ""]))
-        for boats, words in (2, "GBR 1</b>  and <b>GBR 2</b> </p>"), (3, " and <b>GBR 3</b> </p>"), (6, " and <b>GBR 3</b>  and 3 more</p>"):
+        for boats, words in (2, "GBR 1</b> and <b>GBR 2</b></p>"), (3, " and <b>GBR 3</b></p>"), (6, " and <b>GBR 3</b> and 3 more</p>"):
             lines = ["FINISH 1 GBR1", *(f"TIE 1 GBR{number} GBR1" for number in range(2, boats + 1)), "SCORE 1"]
             self.write(journal_of(os.path.join(self.here, "even"), *lines), "even", "journal.txt")
             page = confirmed(listing([self.view("even")]), "2026-03-01T10:00:00+00:00", "once")

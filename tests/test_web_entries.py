@@ -151,7 +151,7 @@ class Late(Web):
         self.enter()
         for odd in ODD:
             self.assertEqual(self.name(**odd)[0], 422, odd)
-        for size, wanted in ((250 << 10, 422), (300 << 10, 413)):
+        for size, wanted in ((15 << 10, 422), (20 << 10, 413)):
             self.assertEqual(self.name(name="A" * size)[0], wanted)
         self.assertEqual(self.list(), LIST)
         for sail, typed, held in TYPED:

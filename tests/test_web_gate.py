@@ -20,7 +20,7 @@ from raceoffice.web import hosting
 from raceoffice.web.gate import Gate
 from raceoffice.web.hosting import Host, Hub, Waiting
 from raceoffice.web.rates import Rate
-from raceoffice.web.requests import HEAD, Reply, Request, Wrong, packed, request_of
+from raceoffice.web.requests import HEAD, Reply, Request, Wrong, hashed, packed, request_of
 from raceoffice.web.routes import Routes
 from raceoffice.web.web_office import WebOffice
 from web_devices import BOATS, READY, Device, Web, is_known, list_of, new_id
@@ -252,7 +252,7 @@ class Attacks(unittest.TestCase):
         """A long head or body is refused before it is read; a large body only a device may send."""
         for wanted, text in [(431, f"GET / HTTP/1.1\r\nHost: 127.0.0.1\r\nX: {'x' * 20_000}\r\n\r\n"),
                              (413, self.head("/office/in", 5000)), (413, self.head("/office/in", 10 ** 30)),
-                             (413, self.head(LINE, 300_000, self.finish.cookie)), (413, self.head(LINE, 5000)),
+                             (413, self.head(LINE, 17_000, self.finish.cookie)), (413, self.head(LINE, 5000)),
                              (413, self.head("/office/finish/list", 300_000, self.finish.cookie)),
                              (400, self.head("/office/in", -5)), (400, "GET  / HTTP/1.1\r\n\r\n"),
                              (400, "GET / HTTP/1.1\r\nHost: a\r\nHost: b\r\n\r\n"),
@@ -265,6 +265,21 @@ class Attacks(unittest.TestCase):
                              (400, "POST / HTTP/1.1\r\nHost: 127.0.0.1\r\nTransfer-Encoding: chunked\r\n\r\n"),
                              (400, "GET http://127.0.0.1/ HTTP/1.1\r\nHost: 127.0.0.1\r\n\r\n")]:
             self.assertEqual(self.sent(text), wanted, text[:60])
+
+    def test_bodies(self) -> None:
+        """Each address takes as much as it needs, and says so of more before that has come: a tap 16 KB, what may be about
+        all boats 256 KB, a list 5 MB. Nobody who comes has more than a stranger."""
+        jury = self.device("jury")
+        sizes = {(self.finish, "line/cup"): 16, (self.finish, "leave"): 16, (self.finish, "none"): 16, (self.finish, "in"): 4,
+                 (self.finish, "list"): 16, (jury, "line/cup"): 16, (jury, "preview/cup"): 16, (jury, "decide/cup"): 256,
+                 (jury, "correct/cup"): 16, (self.scorer, "line/cup"): 16, (self.scorer, "key"): 16, (self.scorer, "in"): 4,
+                 (self.scorer, "correct/cup"): 256, (self.scorer, "save/cup"): 256, (self.scorer, "list"): 5120}
+        for (device, name), most in sizes.items():
+            path = f"/office/{device.role}/{name}"
+            self.assertEqual(self.sent(self.head(path, (most << 10) + 1, device.cookie)), 413, path)
+            self.assertEqual(self.sent(self.head(path, most << 10, device.cookie) + "x" * (most << 10)), 403, path)
+        # Nobody reads what comes with a question.
+        self.assertEqual(self.sent(self.head("/office/finish/me", 5000, self.finish.cookie).replace("POST", "GET")), 413)
 
     def head(self, path: str, size: int, cookie: str = "") -> str:
         return (f"POST {path} HTTP/1.1\r\nHost: 127.0.0.1:{self.port}\r\nCookie: {cookie}\r\n"
@@ -415,8 +430,8 @@ class Turns(unittest.IsolatedAsyncioTestCase):
 
 
 class Heads(unittest.TestCase):
-    """What reading a head costs the thread of all connections: of each about a millisecond, and less than three where other
-    programs have the processors, too."""
+    """What reading a head costs the thread of all connections: of each a small part of a millisecond, and less than three where
+    other programs have the processors, too."""
 
     def test_time(self) -> None:
         gate = Gate("")
@@ -430,6 +445,26 @@ class Heads(unittest.TestCase):
             head = f"GET {line} HTTP/1.1\r\nHost: 127.0.0.1\r\n{field}\r\n\r\n".encode()
             self.assertLess(len(head), HEAD)
             self.assertLess(min(self.spent(routes, head) for _ in range(30)), 0.003, (line[:20], field[:20]))
+
+    def test_cookies(self) -> None:
+        """Of a head full of cookies the last few of the role that is asked for are read, once."""
+        gate, summed = Gate(""), list[str]()
+        key = gate.new_key("FINISH")
+        own = gate.enter(Request("POST", "/", {}, "127.0.0.1"), "FINISH", key, "Ann")[0].partition(";")[0]
+        routes = Routes(WebOffice(gate, "/none", "http://127.0.0.1/", print))
+        others = "; ".join(f"office-{role}-{at:08x}={'A' * 43}" for at in range(80) for role in ("finish", "jury", "scorer"))
+        head = f"GET /office/finish/me HTTP/1.1\r\nHost: 127.0.0.1\r\nCookie: {others}; {own}; theme=dark\r\n\r\n"
+
+        def sum_of(text: str) -> str:
+            summed.append(text)
+            return hashed(text)
+
+        with mock.patch("raceoffice.web.requests.hashed", sum_of):
+            request = request_of(head.encode(), "127.0.0.1")
+            for _ in range(3):
+                self.assertEqual(routes.name_of(request), next(iter(gate.devices)))
+            self.assertGreater(routes.room_for(request), 0)
+        self.assertLessEqual(len(summed), 16)
 
     @staticmethod
     def spent(routes: Routes, head: bytes) -> float:

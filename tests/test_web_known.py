@@ -1,6 +1,7 @@
 """Who is known: what outlives the web, and how long a device is let in."""
 from __future__ import annotations
 
+import asyncio
 import http.client
 import json
 import os
@@ -19,7 +20,8 @@ from on_water import OnWater
 from raceoffice.errors import NotSent, Trouble
 from raceoffice.web import gate as gates
 from raceoffice.web.gate import Gate
-from raceoffice.web.requests import Request, Wrong
+from raceoffice.web.kept_office import KeptOffice
+from raceoffice.web.requests import Reply, Request, Wrong
 from raceoffice.web.routes import Routes
 from raceoffice.web.web_office import Class, WebOffice
 from web_devices import Device, Web, is_known, new_id
@@ -286,6 +288,63 @@ class PutOut(OnWater):
                 thread.join()
         self.assertEqual(statuses, dict.fromkeys(("remove/cup", "line/cup", "correct/cup", "decide/cup"), 401))
         self.assertEqual(self.text("cup", "journal.txt"), before)
+
+    def test_while_the_gate_is_changed(self) -> None:
+        """A scorer's device is put out while it waits to make a link, or to put another out: it does neither."""
+        ann, jury = self.come("SCORER"), self.come("JURY")
+        asked: list[tuple[str, dict[str, object]]] = [("key", {"role": "SCORER", "stay": True}), ("revoke", {"mark": jury.mark})]
+        for path, values in asked:
+            eve, noted = self.come("SCORER"), Noted(self.gate.lock)
+            keys = dict(self.gate.keys)
+            with mock.patch.object(self.gate, "lock", noted):
+                self.assertEqual(self.status_once_put_out(noted, eve, path, **values), 401, path)
+            self.assertEqual(self.gate.keys, {role: key for role, key in keys.items() if role != "SCORER"})
+            self.assertTrue({ann.mark, jury.mark} <= set(self.gate.devices))
+
+    def status_once_put_out(self, noted: Noted, device: gates.Device, path: str, **values: object) -> int:
+        """The status of the answer to what waited for a lock while its device was put out."""
+        statuses: list[int] = []
+        thread = threading.Thread(target=lambda: statuses.append(self.status(device, path, **values)))
+        with noted.lock:
+            thread.start()
+            self.assertTrue(noted.waiting.acquire(timeout=helpers.PATIENCE), path)
+            self.gate.revoke(device.mark)
+        thread.join()
+        return statuses[0]
+
+    def test_before_the_office(self) -> None:
+        """What waits until others are done with an office isn't done any more: it is neither opened, closed nor opened
+        again, nor does it come to be wanted otherwise."""
+        office = self.office.classes["cup"].office = KeptOffice(self.room.folder, lambda text: None)
+        begun = mock.Mock(return_value=True)
+        for path, is_left in (("open/cup", False), ("close/cup", False), ("reopen/cup", True)):
+            noted = Noted(office.lock)
+            (office.is_left.set if is_left else office.is_left.clear)()
+            with mock.patch.object(office, "lock", noted), mock.patch.object(office, "is_there", return_value=False), \
+                    mock.patch.object(office, "is_opened", begun):
+                self.assertEqual(self.status_once_put_out(noted, self.come("SCORER"), path), 401, path)
+            self.assertEqual((begun.called, office.is_left.is_set()), (False, is_left), path)
+
+    def test_what_is_read(self) -> None:
+        """What waits to be read isn't shown any more."""
+        async def status(device: gates.Device, path: str, cookie: str) -> object:
+            fields, workers = {"cookie": cookie, "host": "127.0.0.1"}, self.routes.workers
+
+            async def outcome(role: str, name: str, work: Callable[[], Reply]) -> Reply:
+                self.gate.revoke(device.mark)
+                return work()
+            with mock.patch.object(workers, "outcome", outcome):
+                try:
+                    await self.routes.answer(Request("GET", f"/office/{path}", fields, "127.0.0.1"))
+                except Wrong as wrong:
+                    return wrong.status
+            return 200
+
+        for path in ("finish/state/cup", "jury/rulings/cup", "scorer/devices", "scorer/listed/cup", "scorer/results/cup"):
+            role = path.partition("/")[0].upper()
+            cookie = self.gate.enter(Request("POST", "/", {}, "127.0.0.1"), role, self.gate.new_key(role, False), "Eve")[0]
+            device = [*self.gate.devices.values()][-1]
+            self.assertEqual(asyncio.run(status(device, path, cookie.partition(";")[0])), 401, path)
 
 
 class FullDisk(unittest.TestCase):

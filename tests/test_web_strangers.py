@@ -2,6 +2,7 @@
 from __future__ import annotations
 
 import asyncio
+import collections
 import contextlib
 import io
 import json
@@ -184,6 +185,80 @@ class Connections(unittest.IsolatedAsyncioTestCase):
                 await self.until(lambda: not self.host.open)
         self.assertTrue(aborted.called)
 
+    async def sent_but_its_end(self) -> socket.socket:
+        """A connection with a request whose body lacks its last byte."""
+        before = self.host.open
+        link = socket.create_connection(self.door)
+        self.addCleanup(link.close)
+        link.sendall(b"POST / HTTP/1.1\r\nContent-Length: 2\r\n\r\n{")
+        await self.until(lambda: self.host.open == before + 1)
+        await asyncio.sleep(0.05)
+        return link
+
+    async def test_given_up_with_its_last_byte(self) -> None:
+        """A connection that is given up in whatever turn of the loop its request comes to be whole ends: none stays that is
+        counted as about to end."""
+        self.data, self.host.room = b"ok", lambda _: 10
+        await self.host.start(*self.door, None)
+        for turns in range(8):
+            link = await self.sent_but_its_end()
+            link.send(b"}")
+            for _ in range(turns):
+                await asyncio.sleep(0)
+            self.host.give_up(self.host.visits["127.0.0.1"])
+            await self.until(lambda: (self.host.open, self.host.ending) == (0, 0))
+
+    async def test_given_up_before_its_answer(self) -> None:
+        """A connection that was given up, whatever has become of that, isn't answered."""
+        self.data, self.host.room = b"ok", lambda _: 10
+        await self.host.start(*self.door, None)
+        link = await self.sent_but_its_end()
+        self.host.visits["127.0.0.1"].take_first()
+        self.host.ending += 1
+        link.send(b"}")
+        await self.until(lambda: (self.host.open, self.host.ending) == (0, 0))
+        self.assertEqual((self.answered, link.recv(100)), (0, b""))
+
+    async def test_some_that_never_end(self) -> None:
+        """However many that were given up don't end, others are let in as long as there are files for them."""
+        self.data = b"ok"
+        await self.host.start(*self.door, None)
+        self.host.ending = self.host.most_ending + 1
+        for _ in range(3):
+            reader, writer = await asyncio.open_connection(*self.door)
+            self.addCleanup(writer.transport.abort)
+            await asyncio.wait_for(self.ask(reader, writer, GET), helpers.PATIENCE)
+        self.host.open = self.host.most + self.host.most_ending
+        reader, _ = await asyncio.open_connection(*self.door)
+        self.assertEqual(await asyncio.wait_for(reader.read(), helpers.PATIENCE), b"")
+
+    async def test_many_heads_at_once(self) -> None:
+        """Of an address whose heads come at once, one is read in each turn of the loop; another one doesn't wait for them."""
+        turns, seen = [0], list[tuple[str, int]]()
+
+        async def answer(request: Request) -> Reply:
+            seen.append((request.address, turns[0]))
+            return Reply()
+
+        async def count() -> None:
+            while True:
+                turns[0] += 1
+                await asyncio.sleep(0)
+
+        self.host.answer = answer
+        await self.host.start(*self.door, None)
+        links = [socket.create_connection(self.door, source_address=(f"127.0.0.{3 if at == 60 else 2}", 0)) for at in range(61)]
+        for link in links:
+            self.addCleanup(link.close)
+        await self.until(lambda: self.host.open == len(links))
+        counting = asyncio.create_task(count())
+        for link in links:
+            link.sendall(GET)
+        await self.until(lambda: len(seen) == len(links))
+        counting.cancel()
+        self.assertEqual(max(collections.Counter(seen).values()), 1)
+        self.assertLess([address for address, _ in seen].index("127.0.0.3"), 10)
+
     async def test_files_left(self) -> None:
         """Files are left to the rest of the process, for many classes; by HTTPS there are fewer connections."""
         secure = ssl.SSLContext(ssl.PROTOCOL_TLS_SERVER)
@@ -269,6 +344,16 @@ class Links(unittest.TestCase):
             self.come(f"stranger {number}")
         self.assertRaisesRegex(Wrong, "as many devices as it may have", self.come, "one more")
         self.assertIn(boat, self.gate.devices)
+
+    def test_used_up(self) -> None:
+        """However many have come by a link, whoever has the new one comes in at once."""
+        self.gate.coming = Rate(3, 0.1)
+        for are_devices_out in (True, False):
+            with self.assertRaisesRegex(Wrong, "too many"):
+                for _ in range(4):
+                    self.come()
+            self.keys["FINISH"] = self.gate.new_key("FINISH", are_devices_out)
+            self.come("Ann")
 
     def test_link_that_ends_meanwhile(self) -> None:
         """Somebody comes by a link that ends while the gate is changed: it isn't valid any more."""

@@ -63,10 +63,10 @@ class Timed(Prepared):
         race = scorer.state()["races"]["1"]
         self.assertEqual(race["order"], [["GBR7"], ["GBR101"], ["NED12"]])
         self.assertEqual(race["sheet"], {"start": "14:00:00", "wrong": [], "why": [], "rows": {
-            "GBR101": {"finish": "15:00:00", "code": "", "elapsed": 3600, "why": []},
-            "GBR7": {"finish": "15:05:00", "code": "", "elapsed": 3900, "why": []},
-            "NED12": {"finish": "14:48:01", "code": "", "elapsed": 2881, "why": []},
-            "FRA9": {"finish": "", "code": "DNF", "elapsed": None, "why": []}}})
+            "GBR101": {"finish": "15:00:00", "code": "", "elapsed": 3600, "crossed": 54000, "why": []},
+            "GBR7": {"finish": "15:05:00", "code": "", "elapsed": 3900, "crossed": 54300, "why": []},
+            "NED12": {"finish": "14:48:01", "code": "", "elapsed": 2881, "crossed": 53281, "why": []},
+            "FRA9": {"finish": "", "code": "DNF", "elapsed": None, "crossed": None, "why": []}}})
         self.assertEqual(race["at"]["GBR7"], moment("15:05:00"))
         # She has finished already, and isn't moved by another tap.
         self.assertEqual(ann.tap("FINISH 1 GBR7", at=moment("15:06:00"))[0], 422)
@@ -323,6 +323,8 @@ class Timed(Prepared):
         self.assertEqual(self.journal(), ["SCORER TIME 1 GBR101 4200", "SCORER TIME 1 GBR7 3510"])
         rows = scorer.state()["races"]["1"]["sheet"]["rows"]
         self.assertEqual([rows[sail]["elapsed"] for sail in ("GBR101", "GBR7")], [4200, 3900])
+        # 0:10 of the next day, and 1:05:00 after 23:00
+        self.assertEqual([rows[sail]["crossed"] for sail in ("GBR101", "GBR7")], [87000, 86700])
         self.assertEqual(ann.tap("FINISH 1 GBR7", at=moment("00:20:00"))[0], 422)
         ann.tap("STRIKE 1 GBR7")
         self.assertEqual((self.journal()[-1], self.sheet()[2]), ("FINISH STRIKE 1 GBR7", "GBR7,23:00:00,,,"))

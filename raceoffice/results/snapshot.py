@@ -13,7 +13,7 @@ from collections.abc import Sequence
 from dataclasses import dataclass, field
 
 from raceoffice import time_zones
-from raceoffice.characters import in_one_form, is_composed
+from raceoffice.characters import in_no_order, in_one_form, is_composed, is_right_to_left
 from raceoffice.decisions.points import Decided
 from raceoffice.program.journal import Race, Series
 from raceoffice.program.standing import Ranks, Row, Score, Standing, tie_break
@@ -160,24 +160,37 @@ def labels_of(views: Sequence[Snapshot]) -> list[str]:
         if not alike:
             return labels
         for at in alike:
-            labels[at] = f"{labels[at]} ({folder_shown(views[at].name)})"
+            labels[at] += in_brackets(folder_shown(views[at].name), is_right_to_left(headings[at]))
         named |= alike
 
 
 def looking_alike(texts: Sequence[str], forms: dict[str, str]) -> set[int]:
-    """The places of texts that look as another does: spaces in a row are one, as a browser shows them, and signs that
-    Unicode holds for the same are the same, as a letter with its mark and both in one sign. `forms` has what was found of
-    texts before."""
+    """The places of texts that look as another does, or may. `forms` has what was found of texts before."""
     for text in texts:
         if text not in forms:
-            forms[text] = " ".join(in_one_form(text).split())
+            forms[text] = form_shown(text)
     often = collections.Counter(forms[text] for text in texts)
     return {at for at, text in enumerate(texts) if often[forms[text]] > 1}
 
 
+def form_shown(text: str) -> str:
+    """What texts have in common that look alike: spaces in a row are one, as a browser shows them, and signs that Unicode
+    holds for the same are the same, as a letter with its mark and both in one sign. What is written from right to left is
+    shown in another order."""
+    form = " ".join(in_one_form(text).split())
+    return in_no_order(form) if is_right_to_left(form) else form
+
+
 def folder_shown(name: str) -> str:
     """The name of a folder, or what stands for it in an address: no two look alike."""
-    return name if FOLDER.fullmatch(name) and is_composed(name) else urllib.parse.quote(name, safe="")
+    is_plain = FOLDER.fullmatch(name) and is_composed(name) and not is_right_to_left(name)
+    return name if is_plain else urllib.parse.quote(name, safe="")
+
+
+def in_brackets(folder: str, is_after_right_to_left: bool) -> str:
+    """What a folder adds to a name. Digits alone would be shown before a name that is written from right to left, and those
+    after a word aren't."""
+    return f" (folder {folder})" if is_after_right_to_left else f" ({folder})"
 
 
 def told_apart(views: Sequence[Snapshot]) -> list[Snapshot]:

@@ -43,6 +43,8 @@ class LineOrder:
     groups: list[list[str]] = field(default_factory=list)
     struck: set[str] = field(default_factory=set)
     ahead: dict[str, set[str]] = field(default_factory=dict)
+    # After how many groups no boat of the order comes any more; None after a line, until somebody needs it.
+    end: int | None = field(default=None, compare=False)
 
     @classmethod
     def read(cls, number: int, journal: Sequence[str], kept: Sequence[Kept], meant: Mapping[int, Meant]) -> LineOrder:
@@ -50,13 +52,11 @@ class LineOrder:
         order, due = cls(), dict[int, list[Kept]]()
         for place in kept:
             due.setdefault(min(place.entries, len(journal)), []).append(place)
+        race = f" {number} "
         for at, line in enumerate(["", *journal]):
-            command, of, *words = [*line.split(), "", ""] if line.startswith(ORDERING) else ["", ""]
-            if command in ORDERING and of == str(number):
-                # A journal that was edited by hand may have any line.
-                with contextlib.suppress(ValueError):
-                    order.follow([command, *filter(None, words)], meant.get(at, Meant()))
-            for place in due.get(at, []):
+            if race in line and line.startswith(ORDERING):
+                order.follow_line(number, line, meant.get(at, Meant()))
+            for place in due.get(at, ()):
                 order.keep(place)
         return order
 
@@ -88,9 +88,22 @@ class LineOrder:
 
     def ahead_of(self, mark: str) -> set[str]:
         """The boats ahead of a place, and those that were and aren't in the order."""
+        return self.ahead_of_each({mark})[mark]
+
+    def ahead_of_each(self, marks: Collection[str]) -> dict[str, set[str]]:
+        """The same of some places, in their order."""
         now = {sail for group in self.groups for sail in self.boats(group)}
-        first = {sail for group in self.groups[:self.at(mark) + 1] for sail in self.boats(group)}
-        return first | (self.ahead[mark] - now)
+        first, found = set[str](), dict[str, set[str]]()
+        for group in self.groups:
+            first.update(self.boats(group))
+            found |= {mark: first | (self.ahead[mark] - now) for mark in group if mark in marks}
+        return found
+
+    def end_of_boats(self) -> int:
+        """After how many groups no boat of the order comes any more. However many places are kept then, each comes last."""
+        if self.end is None:
+            self.end = next((at for at in range(len(self.groups), 0, -1) if self.boats(self.groups[at - 1])), 0)
+        return self.end
 
     def ahead_before(self, line: str, later: str = "") -> list[str]:
         """The places that a boat was ahead of when she was struck, and that she would come behind by this line if it
@@ -125,13 +138,13 @@ class LineOrder:
         self.ahead[place.mark] = set(place.behind)
         if is_there:
             return
-        behind = set(place.behind)
-        at = max((at for at, group in enumerate(self.groups, 1) if behind & set(self.boats(group))), default=0)
-        while at < len(self.groups) and not self.boats(self.groups[at]):
-            at += 1
+        behind, end = set(place.behind), self.end_of_boats()
+        last = next((at for at in range(end, 0, -1) if behind.intersection(self.boats(self.groups[at - 1]))), 0)
+        at = next((at for at in range(last, end) if self.boats(self.groups[at])), len(self.groups))
         with contextlib.suppress(ValueError):
             at = self.at(place.later) if place.later else at
         self.groups.insert(at, [place.mark])
+        self.end = end + (at < end)
 
     def suppose(self, mark: str, sail: str) -> None:
         """Has a boat in a place, although no line has put her there: she is ahead of all places after it."""
@@ -140,8 +153,16 @@ class LineOrder:
                 for other in filter(is_mark, group):
                     self.ahead[other].add(sail)
 
+    def follow_line(self, number: int, line: str, meant: Meant) -> None:
+        """Follows a line of the journal if it is one of this race. A journal that was edited by hand may have any line."""
+        command, of, *words = [*line.split(), "", ""]
+        if command in ORDERING and of == str(number):
+            with contextlib.suppress(ValueError):
+                self.follow([command, *filter(None, words)], meant)
+
     def follow(self, words: Sequence[str], meant: Meant) -> None:
         """Follows a line; a ValueError if it can't be one."""
+        self.end = None
         match words:
             case ["STRIKE", sail] if meant.what == "leaving":
                 # She was never there.

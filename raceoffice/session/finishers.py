@@ -13,6 +13,10 @@ from raceoffice.session.parse import FIRST, MAY, boat_meant, boats_meant, short
 from raceoffice.session.seat import Done, Seat
 from raceoffice.session.sending import is_meant, send, transmit
 
+# How many places are kept in a race at once, beside one for each boat that is entered or in the list: somebody may be tapped
+# twice, or be in neither.
+MORE = 10
+
 
 def keep_or_send(seat: Seat, mark: str, sail: list[str]) -> bool:
     """Keeps her place (`?`, `101?`), or sends her sail (`?1 GBR 33`); whether it was taken."""
@@ -41,9 +45,17 @@ def race_of(seat: Seat, mark: str, sail: list[str]) -> Race:
 def keep(seat: Seat, race: Race, typed: str = "", why: str = "", twin: Twin = Twin()) -> bool:
     """Keeps the place of a finisher at the end of the order as it is now. `twin` says in which other classes she
     is kept."""
+    need_room(seat, race.number)
     mark = seat.keep(race, typed, twin)
     seat.say_of("place-kept", mark=mark, why=why)
     return True
+
+
+def need_room(seat: Seat, race: int) -> None:
+    """NotSent if a race keeps as many places as it may. Nobody needs more, and each tap of all goes through all of them."""
+    kept, boats = len(seat.unread.of(race)), {*seat.facts.boats, *seat.facts.names}
+    if kept >= len(boats) + MORE:
+        raise NotSent(remark("places-most", race=race, kept=kept))
 
 
 def send_or_place(seat: Seat, line: str, is_bare: bool, later: str = "") -> bool:
@@ -138,9 +150,13 @@ def put_right(seat: Seat, meant: Unread, sail: str) -> None:
 
 
 def sail_for(seat: Seat, meant: Unread, words: list[str]) -> str:
-    """The boat that is meant for a place. What was typed of her sail may be left out: `101? ger`."""
-    text = "".join(words).upper() + meant.typed
-    return text if text in seat.facts.boats else boat_meant(words, seat.facts.boats, seat.facts.called)
+    """The boat that is meant for a place. What was typed of her sail may be left out, which leaves letters alone:
+    `101? ger`. `1? irl 1` is IRL1, whoever is IRL11."""
+    text, boats = "".join(words).upper(), seat.facts.boats
+    whole = text + meant.typed
+    if text not in boats and whole in boats and not any(map(str.isdigit, text)):
+        return whole
+    return boat_meant(words, boats, seat.facts.called)
 
 
 def may_send(seat: Seat, line: str, last: str, meant: Unread) -> bool:

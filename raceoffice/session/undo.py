@@ -14,7 +14,7 @@ from raceoffice.series.lost_lines import as_kept
 from raceoffice.series.unknown_finishers import Unread
 from raceoffice.session.dialogue import NOTE
 from raceoffice.session.facts import Facts
-from raceoffice.session.finishers import send_known
+from raceoffice.session.finishers import need_room, send_known
 from raceoffice.session.parse import FINISHING, MAY
 from raceoffice.session.said_words import said
 from raceoffice.session.seat import Done, Seat
@@ -143,6 +143,8 @@ def undo_place(seat: Seat, unread: Unread, what: str) -> bool:
         raise NotSent(remark("place-role"))
     if (what == "kept") != (unread.mark in seat.unread.marks(unread.race)):
         raise NotSent(remark("undo-typed", mark=unread.mark, race=unread.race))
+    if what == "dropped":
+        need_room(seat, unread.race)
     kind = "drop-place" if what == "kept" else "keep-place-again"
     if not seat.is_yes(seat.question(kind, race=unread.race, mark=unread.mark)):
         return seat.not_sent()

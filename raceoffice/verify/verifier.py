@@ -25,6 +25,7 @@ from raceoffice.results.html.overall import overall
 from raceoffice.results.html.race import one_race
 from raceoffice.results.html.sealing import Carried, seal_words
 from raceoffice.results.snapshot import Snapshot, labelled, labels_of, looking_alike, told_apart
+from raceoffice.series.entry_list import Boat
 from raceoffice.series.settings import Settings, rows_of, settings_of
 from raceoffice.terminal import Progress, as_put_out, put_out, say_json, sentence, width
 from raceoffice.traces import guarded
@@ -209,8 +210,7 @@ def compare_tables(rebuilt: Rebuilt, ask: Callable[[], None]) -> None:
         raise ForeignPage(f"the page has {count(len(tables), 'overall table')}, and not {len(wanted)}")
     for table, view in zip(tables, wanted):
         ask()
-        boats = [(" ".join(f"{boat.sail} {boat.helm or boat.name}".split()), row.sail)
-                 for row in view.standing.rows for boat in [view.boat(row.sail)]]
+        boats = {sail_cell(view.boat(row.sail)): row.sail for row in view.standing.rows}
         try:
             standing = standing_of(table, boats, view.standing.races) if view.standing.races else None
         except NoTable as cause:
@@ -222,6 +222,11 @@ def compare_tables(rebuilt: Rebuilt, ask: Callable[[], None]) -> None:
             at = first_of([repr(row) for row in standing.rows],
                           [repr(row) for row in view.standing.rows]) or 0
             raise ForeignPage(f"{place(table, at + 1, 0)}: the row isn't the program's")
+
+
+def sail_cell(boat: Boat) -> str:
+    """The text of a boat's cell with her sail in an overall table, which no other boat has: her sail ends at the comma."""
+    return " ".join(", ".join(text for text in (boat.sail, boat.helm or boat.name) if text).split())
 
 
 def first_difference(text: str, wanted: str, ask: Callable[[], None]) -> str:
@@ -288,7 +293,7 @@ def bewares(view: Snapshot) -> list[str]:
     texts = [view.name, shown.title, shown.group, shown.club, shown.reason]
     texts += [text for boat in view.boats.values() for text in (boat.helm, boat.name, boat.club)]
     texts += rows_of(view.decided.text)
-    odd = [f"{quoted(text)} has a sign that isn't seen, or that turns or strikes others"
+    odd = [f"{quoted(text)} has a sign that isn't seen, or that turns, strikes or pushes others"
            for text in texts if characters.has_odd(text)]
     return [*first_ones(stale(view.decided), "decisions"), *first_ones(odd, "texts")]
 

@@ -228,14 +228,14 @@ def difference(found: Seen, wanted: Seen) -> str:
 SCORE = re.compile(r"(?:(\d+\.\d)|\((\d+\.\d) ?\)(?: excluded))(?: ([A-Z0-9]+))?")
 
 
-def row_of(table: Table, at: int, boats: list[tuple[str, str]], races: int) -> Row:
+def row_of(table: Table, at: int, boats: dict[str, str], races: int) -> Row:
     """A row of a page's overall table; a ValueError says what of it can't be read."""
     cells = [cell.text for cell in table.rows[at]]
     if len(cells) not in (4 + races, 5 + races):
         raise ValueError(f"row {at} has {len(cells)} cells")
     rank = re.fullmatch(r"(\d+)(=?)", cells[0])
     net = re.fullmatch(r"(\d+\.\d) ?[a-z]*", cells[3])
-    sail = sail_of(cells[1], boats, at - 1)
+    sail = boats.get(cells[1])
     if not rank or not net or sail is None:
         raise ValueError(f"row {at} begins with {quoted(' '.join(cells[:4]))}")
     scores = []
@@ -247,16 +247,8 @@ def row_of(table: Table, at: int, boats: list[tuple[str, str]], races: int) -> R
     return Row(int(rank[1]), bool(rank[2]), sail, net[1], tuple(scores))
 
 
-def sail_of(text: str, boats: list[tuple[str, str]], at: int) -> str | None:
-    """The sail of a boat whose cell has this text. Sail and helm of two boats may read the same, as those of GBR 7,
-    1 Smith, and GBR 71, Smith: it is the boat of this row if hers reads so."""
-    found = [sail for other, sail in boats[at:at + 1] + boats if other == text]
-    return found[0] if found else None
-
-
-def standing_of(table: Table, boats: list[tuple[str, str]], races: tuple[int, ...]) -> Standing:
-    """A page's overall table as the program's table. `boats` are the text of each boat's cell and her sail, in the order
-    of the program's table."""
+def standing_of(table: Table, boats: dict[str, str], races: tuple[int, ...]) -> Standing:
+    """A page's overall table as the program's table. `boats` has the sail of each boat by the text of her cell."""
     heads = table.heads[4:4 + len(races)]
     if heads != [f"R{number}" for number in races]:
         raise ValueError(f"the races are {quoted(' '.join(heads))}")

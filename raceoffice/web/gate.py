@@ -164,14 +164,17 @@ class Gate:
 
     # Secrets and devices
 
-    def new_key(self, role: str, are_devices_out: bool = True) -> str:
+    def new_key(self, role: str, are_devices_out: bool = True, need: Callable[[], None] = lambda: None) -> str:
         """A new secret for a role, which is shown once. The old one isn't valid any more, and its devices are
-        put out, or stay."""
+        put out, or stay. However many have come by the old one, those who have the new one come in at once. `need` raises what
+        keeps it from being made once the gate is changed."""
         secret = secrets.token_urlsafe(16)
         with self.changing():
+            need()
             self.keys[role] = hashed(secret)
             if are_devices_out:
                 self.put_out([mark for mark, device in self.devices.items() if device.role == role])
+        self.coming.forget(role)
         return secret
 
     def put_out(self, marks: Iterable[str]) -> None:
@@ -179,12 +182,13 @@ class Gate:
         self.out |= {mark: self.devices.pop(mark).name for mark in marks}
         self.out = dict([*self.out.items()][-OUT:])
 
-    def revoke(self, mark: str, ends_link: bool = True) -> None:
+    def revoke(self, mark: str, ends_link: bool = True, need: Callable[[], None] = lambda: None) -> None:
         """Puts one device out; `mark` is the beginning of its own. A phone that was lost may have the link of its role still:
-        that ends, too."""
+        that ends, too. `need` raises what keeps it from being done once the gate is changed."""
         if len(mark) < MARK:
             return
         with self.changing():
+            need()
             found = [device for key, device in self.devices.items() if key.startswith(mark)]
             self.put_out([device.mark for device in found])
             for device in found if ends_link else ():
@@ -205,7 +209,7 @@ class Gate:
                 # It comes again.
                 self.devices.pop(before.mark, None)
             self.make_room(role)
-            own = [mark for _, _, mark in cookies_of(request, role)]
+            own = [mark for _, mark in request.cookies(role)]
             device = Device(hashed(cookie), role, self.free_name(plain_name(name) or role.lower(), own), now, now, 0,
                             request.address)
             self.devices[device.mark] = device
@@ -248,8 +252,7 @@ class Gate:
     def cookie(self, request: Request, role: str) -> str:
         """The cookie by which a device of a role is known; empty if it isn't. Its browser may have others, of other
         offices on this computer."""
-        known = ((value, mark) for _, value, mark in cookies_of(request, role) if mark in self.devices)
-        return next((value for value, mark in known if self.is_of_role(mark, role)), "")
+        return next((value for value, mark in request.cookies(role) if self.is_of_role(mark, role)), "")
 
     def is_of_role(self, mark: str, role: str) -> bool:
         device = self.devices.get(mark)
@@ -335,9 +338,3 @@ class Gate:
 
 def unknown() -> Wrong:
     return Wrong(401, "this device isn't known here: open the link of your role again")
-
-
-def cookies_of(request: Request, role: str) -> list[tuple[str, str, str]]:
-    """The cookies of a role that a request has. The name of an older package's has no more than the role."""
-    beginning = f"office-{role.lower()}"
-    return [cookie for cookie in request.cookies if cookie[0].startswith(beginning)]

@@ -21,8 +21,8 @@ from dataclasses import dataclass
 from raceoffice import system
 from raceoffice.results.server import door_at
 from raceoffice.web.rates import Rate
-from raceoffice.web.requests import (HEAD, SAFE, Reply, Request, Wrong, bytes_of, head_of, packed, with_body,
-                                     within)
+from raceoffice.web.requests import (HEAD, SAFE, Reply, Request, Wrong, bytes_of, head_of, packed, request_of,
+                                     with_body, within)
 
 # Seconds for an answer to be taken, for a handshake of TLS, and between two signs of life to those who wait
 # for news.
@@ -42,8 +42,9 @@ WATCHING = 600
 AT_ONCE, EACH_SECOND = 600, 300
 # Bytes of an answer that are handed over at a time: a client that takes none of them holds no more.
 PIECE = 64 << 10
-# How many may wait to be let in, and how many are let in at once.
-WAITING, TOGETHER = 1024, 16
+# How many may wait to be let in, how many are let in at once, and for how many turns of the loop the next ones wait until
+# those that were given up have ended, which takes a few.
+WAITING, TOGETHER, ENDING = 1024, 16, 100
 # Seconds for a connection to end in order.
 MOMENT = 1.0
 # Who has a connection, if it isn't that of a device: one that has asked for nothing yet, or a stranger. Seconds for which the
@@ -234,6 +235,43 @@ class Crowd:
         return True
 
 
+class Queues:
+    """Whose head is read next: one of each address in each turn of the loop, which does all else in between. However many
+    heads come at once, and however long they take, others have their turn."""
+
+    def __init__(self) -> None:
+        # Those that wait, of each address of which one has had its turn just now.
+        self.waiting: dict[str, collections.deque[asyncio.Future[None]]] = {}
+
+    async def turn(self, address: str) -> None:
+        """Waits until it is the turn of one more of an address."""
+        loop = asyncio.get_running_loop()
+        if not self.waiting:
+            loop.call_soon(self.give_turns)
+        if address not in self.waiting:
+            self.waiting[address] = collections.deque()
+            return
+        turn: asyncio.Future[None] = loop.create_future()
+        self.waiting[address].append(turn)
+        await turn
+
+    def give_turns(self) -> None:
+        """Gives the next one of each address its turn."""
+        self.waiting = {address: turns for address, turns in self.waiting.items() if is_given(turns)}
+        if self.waiting:
+            asyncio.get_running_loop().call_soon(self.give_turns)
+
+
+def is_given(turns: collections.deque[asyncio.Future[None]]) -> bool:
+    """Gives the first that waits still its turn; whether there is one."""
+    while turns:
+        turn = turns.popleft()
+        if not turn.done():
+            turn.set_result(None)
+            return True
+    return False
+
+
 class Host:
     """Answers at an address. `answer` says what is sent for a request, `room` how many bytes its body may
     have, and `device` the name of the device that it comes from, if that is known; what goes wrong in that is noted."""
@@ -247,7 +285,7 @@ class Host:
         # The connections of each address, and how many wait for news by their names.
         self.visits: dict[str, Crowd] = {}
         self.watching: collections.Counter[str] = collections.Counter()
-        self.turns = Rate(AT_ONCE, EACH_SECOND)
+        self.turns, self.heads = Rate(AT_ONCE, EACH_SECOND), Queues()
         self.letting_in: asyncio.Task[None] | None = None
 
     async def start(self, address: str, port: int, secure: ssl.SSLContext | None) -> None:
@@ -290,15 +328,23 @@ class Host:
                 if number % TOGETHER == 0:
                     # Those who are in have their turn, too.
                     await asyncio.sleep(0)
-                while self.ending > self.most_ending:
-                    # Those that were given up end first.
-                    await asyncio.sleep(0)
+                await self.wait_for_ends()
+
+    async def wait_for_ends(self) -> None:
+        """Waits until those that were given up have ended, as they do at once; but for none without end."""
+        for _ in range(ENDING):
+            if self.ending <= self.most_ending:
+                return
+            await asyncio.sleep(0)
 
     def is_room_for(self, address: str) -> bool:
         """Whether an address may have one more connection. One that has all it may have gives another up for it; and if there
         is no room left at all, the address that has most does so for another that has fewer. So some that take all they get
         keep out nobody, not even at their own address."""
         own = self.visits.get(address, Crowd())
+        if self.open >= self.most + self.most_ending:
+            # Those that were given up haven't ended yet.
+            return False
         if len(own) >= self.most_of_one:
             self.give_up(own)
         elif self.open - self.ending >= self.most:
@@ -348,10 +394,12 @@ class Host:
                           address: str) -> bool:
         """Answers one request; whether another may follow."""
         try:
-            request = await head_of(reader, writer, address)
-            if request is None:
+            head = await head_of(reader, writer)
+            if not head:
                 return False
-            request = await with_body(reader, request, self.room(request))
+            await self.heads.turn(address)
+            request = request_of(head, address)
+            request = await with_body(reader, writer, request, self.room(request))
         except Wrong as wrong:
             await asyncio.sleep(self.turns.pause(address))
             await send(writer, bytes_of(wrong.reply(), True, False))
@@ -359,7 +407,8 @@ class Host:
         # However many requests have come already, those of others have their turn in between. Strangers don't take the
         # turns of a device that has their address.
         device = self.device(request)
-        self.learn(address, device or STRANGER)
+        if not self.is_learnt(address, device or STRANGER):
+            return False
         await asyncio.sleep(self.turns.pause(device or address))
         try:
             reply = await self.answer(request)
@@ -375,11 +424,13 @@ class Host:
         # A client that has gone gets no more answers, whatever it asked in advance.
         return not is_last and not writer.transport.is_closing()
 
-    def learn(self, address: str, who: str) -> None:
-        """Notes who has the connection that is served just now."""
+    def is_learnt(self, address: str, who: str) -> bool:
+        """Notes who has the connection that is served just now; False if it was given up, and so has to end."""
         visit, crowd = asyncio.current_task(), self.visits.get(address)
-        if visit is not None and crowd is not None:
-            crowd.learn(visit, who)
+        if visit is None or crowd is None or visit not in crowd.who:
+            return False
+        crowd.learn(visit, who)
+        return True
 
     async def send_news(self, reader: asyncio.StreamReader, writer: asyncio.StreamWriter, reply: Waiting,
                         address: str) -> None:
@@ -425,8 +476,8 @@ async def end(writer: asyncio.StreamWriter) -> None:
     before somebody else's has the same number."""
     try:
         writer.close()
-        with contextlib.suppress(Exception):
-            await asyncio.wait_for(writer.wait_closed(), MOMENT)
+        with within(writer, MOMENT), contextlib.suppress(Exception):
+            await writer.wait_closed()
     finally:
         writer.transport.abort()
 

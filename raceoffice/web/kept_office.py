@@ -100,16 +100,18 @@ class KeptOffice:
 
     # Opening
 
-    def open(self, ask: Ask, as_it_was: bool = False, is_again: bool = False) -> bool:
+    def open(self, ask: Ask, as_it_was: bool = False, is_again: bool = False, need: Callable[[], None] = lambda: None) -> bool:
         """Opens the office, joins one that a window has, or takes over one whose window has gone; whether one
         is open then. One that is opened `as_it_was` goes by the rules in force, and nobody is asked about others. One that
-        is opened again by itself stays closed if somebody has closed it meanwhile."""
+        is opened again by itself stays closed if somebody has closed it meanwhile. `need` raises what keeps it from being
+        opened once others are done with it."""
         if self.is_shut() and not self.is_asked_to_close:
-            return self.open_again_with_settings(ask)
+            return self.open_again_with_settings(ask, need)
         with self.lock:
             if self.is_asked_to_close:
                 # Its last copy may still be being made.
                 self.is_ended.wait()
+            need()
             if self.keeping:
                 return True
             if self.is_over or is_again and self.is_left.is_set():
@@ -259,12 +261,14 @@ class KeptOffice:
 
     # Closing
 
-    def close(self, comes_back: bool = False) -> bool:
+    def close(self, comes_back: bool = False, need: Callable[[], None] = lambda: None) -> bool:
         """Closes the office, which lets everybody leave first; whether it was this process that kept it. One
-        that a window keeps stays open. One that `comes_back` is opened again by whoever closes it."""
-        if not comes_back:
-            self.is_left.set()
+        that a window keeps stays open. One that `comes_back` is opened again by whoever closes it. `need` raises what keeps
+        it from being closed once others are done with it."""
         with self.lock:
+            need()
+            if not comes_back:
+                self.is_left.set()
             # One that is being opened just now is closed, too.
             if not self.keeping:
                 return False
@@ -290,9 +294,9 @@ class KeptOffice:
             threading.Thread(target=self.keep_trying, args=(agreed,), daemon=True).start()
         return is_open
 
-    def take_out(self, sail: str, by: str, ask: Ask) -> str:
+    def take_out(self, sail: str, by: str, ask: Ask, need: Callable[[], None] = lambda: None) -> str:
         """Takes a boat out of the journal, for which the office is closed and opened again: the dated copy that has her
-        still. What goes and whom that moves is asked while the office is open. `by` is who does."""
+        still. What goes and whom that moves is asked while the office is open. `by` is who does, and `need` as of `close`."""
         fresh = self.folder_alone()
         # Once it is closed, an office that can't be kept couldn't be opened again.
         if fault := journal_fault(fresh) or disk_fault(fresh):
@@ -300,7 +304,7 @@ class KeptOffice:
         wanted = question_of_removal(fresh, sail)
         if not ask(wanted):
             raise NotSent(remark("boat-stays", sail=sail))
-        was_open = self.close(comes_back=True)
+        was_open = self.close(comes_back=True, need=need)
         try:
             copy, fault = self.taken_out(fresh, sail, by, wanted)
         finally:
@@ -334,17 +338,20 @@ class KeptOffice:
         """What is said of an office that this process doesn't keep."""
         return remark("other-window" if self.has_window() else "window-gone")
 
-    def open_again_with_settings(self, ask: Ask) -> bool:
+    def open_again_with_settings(self, ask: Ask, need: Callable[[], None] = lambda: None) -> bool:
         """Closes the office and opens it with the settings as they are now; whether it is open then. What they
-        would change is asked while it is still open. NotSent if it can't be, and nothing is closed then."""
+        would change is asked while it is still open. NotSent if it can't be, and nothing is closed then. `need` as of
+        `close`."""
         fresh = self.folder_alone()
         if wrong := faults(fresh) or [fault for fault in [disk_fault(fresh)] if fault]:
             raise NotSent(*wrong)
         asked = question_of_rules(fresh)
         agreed = asked if asked and ask(asked) else None
-        # Somebody wants it open, whoever has closed it before.
-        self.is_left.clear()
-        self.close(comes_back=True)
+        with self.lock:
+            need()
+            # Somebody wants it open, whoever has closed it before.
+            self.is_left.clear()
+        self.close(comes_back=True, need=need)
         return self.come_back(ask, asked != agreed, agreed)
 
 

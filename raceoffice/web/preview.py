@@ -1,7 +1,6 @@
 """What lines or a decision would do, with nothing sent: whom they move, and which lines a decision takes.
 
-`preview` and `decide` are the only functions that work this out: no other module of the web asks how points
-of decisions are computed.
+No other module of the web asks how points of decisions are computed.
 """
 from __future__ import annotations
 

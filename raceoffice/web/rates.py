@@ -41,6 +41,10 @@ class Rate:
         self.left[name] = (left, now)
         return max(0.0, -left / self.each_second)
 
+    def forget(self, name: str) -> None:
+        """Gives somebody all tries again."""
+        self.left.pop(name, None)
+
     def left_of(self, name: str, now: float) -> float:
         left, then = self.left.get(name, (self.most, now))
         return min(self.most, left + (now - then) * self.each_second)

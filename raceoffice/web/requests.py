@@ -21,15 +21,16 @@ from raceoffice.results.http_answers import VERSIONS
 # Seconds for a request's head to come, for its body, and for a connection without a request.
 HEAD_TIME, BODY_TIME, IDLE = 10.0, 30.0, 70.0
 # The most bytes of a request's head and of its first line; how many fields it may have, and how many parts its path.
-# Whatever it has, reading it takes the thread of all connections about a millisecond.
+# Whatever it has, reading it takes the thread of all connections a small part of a millisecond. Phones that had an older
+# package may send 180 cookies.
 HEAD, LINE = 16 << 10, 2 << 10
 FIELDS, PARTS = 100, 16
-# A cookie by which a device may be known, of which a head has room for some 280. What has to be before it comes second, so
-# that a text without any is passed over quickly.
-COOKIE = re.compile("(office-(?<=[; ]office-)[a-z]{4,6}(?:-[0-9a-f]{8})?)=([^; ]{43,})")
+# What follows the role in a cookie by which a device may be known; the name of an older package's has no more. This many of
+# a role are read: a browser has one for each office of a computer.
+COOKIE, COOKIES = re.compile("(?:-[0-9a-f]{8})?=([^; ]{43,})"), 16
 REASONS = {200: "OK", 204: "No Content", 301: "Moved Permanently", 304: "Not Modified",
            400: "Bad Request", 401: "Unauthorized", 403: "Forbidden", 404: "Not Found",
-           405: "Method Not Allowed", 408: "Request Timeout", 409: "Conflict", 413: "Content Too Large",
+           405: "Method Not Allowed", 409: "Conflict", 413: "Content Too Large",
            421: "Misdirected Request", 422: "Unprocessable Content", 429: "Too Many Requests",
            431: "Request Header Fields Too Large", 500: "Internal Server Error",
            503: "Service Unavailable"}
@@ -52,7 +53,7 @@ PACKED = 128
 
 
 # Why a request isn't done, as a fixed word that pages translate, if nothing more is known.
-WHY = {401: "unknown-device", 403: "not-from-a-page", 404: "not-there", 408: "too-slow", 413: "too-long",
+WHY = {401: "unknown-device", 403: "not-from-a-page", 404: "not-there", 413: "too-long",
        421: "other-name", 422: "not-sent", 429: "too-many", 431: "too-long", 503: "office-away"}
 
 
@@ -80,6 +81,8 @@ class Request:
     address: str
     body: bytes = b""
     query: str = ""
+    # The cookies of each role that was asked about, as they were found.
+    found: dict[str, list[tuple[str, str]]] = field(default_factory=dict, compare=False, repr=False)
 
     def values(self) -> dict[str, Any]:
         """The body's values."""
@@ -95,10 +98,14 @@ class Request:
             raise Wrong(400, "the body can't be read")
         return found
 
-    @functools.cached_property
-    def cookies(self) -> list[tuple[str, str, str]]:
-        """The cookies by which devices may be known: of each its name, its value and the hash of that."""
-        return [(name, value, hashed(value)) for name, value in COOKIE.findall(";" + self.fields.get("cookie", ""))]
+    def cookies(self, role: str) -> list[tuple[str, str]]:
+        """The last cookies by which a device of a role may be known, as browsers send the newest last: of each its value and
+        the hash of that."""
+        if role not in self.found:
+            parts = f" {self.fields.get('cookie', '')}".rsplit(f" office-{role.lower()}", COOKIES)[1:]
+            values = [form[1] for form in map(COOKIE.match, parts) if form]
+            self.found[role] = [(value, hashed(value)) for value in values]
+        return self.found[role]
 
     @property
     def takes_gzip(self) -> bool:
@@ -191,18 +198,17 @@ def within(writer: asyncio.StreamWriter, seconds: float) -> Iterator[None]:
         alarm.cancel()
 
 
-async def head_of(reader: asyncio.StreamReader, writer: asyncio.StreamWriter, address: str) -> Request | None:
-    """The next request without its body; None if the client leaves without one."""
+async def head_of(reader: asyncio.StreamReader, writer: asyncio.StreamWriter) -> bytes:
+    """The head of the next request; empty if the client leaves without one."""
     try:
         with within(writer, IDLE):
             first = await reader.read(1)
         if not first:
-            return None
+            return b""
         with within(writer, HEAD_TIME):
-            rest = await reader.readuntil(b"\r\n\r\n")
+            return first + await reader.readuntil(b"\r\n\r\n")
     except asyncio.LimitOverrunError:
         raise Wrong(431) from None
-    return request_of(first + rest, address)
 
 
 def request_of(head: bytes, address: str) -> Request:
@@ -230,7 +236,7 @@ def request_of(head: bytes, address: str) -> Request:
     return Request(words[0], path, fields, address, query=query)
 
 
-async def with_body(reader: asyncio.StreamReader, request: Request, most: int) -> Request:
+async def with_body(reader: asyncio.StreamReader, writer: asyncio.StreamWriter, request: Request, most: int) -> Request:
     """A request with its body, which may have so many bytes."""
     size = request.fields.get("content-length", "0")
     if not (size.isascii() and size.isdecimal()):
@@ -239,8 +245,7 @@ async def with_body(reader: asyncio.StreamReader, request: Request, most: int) -
         raise Wrong(413)
     if not int(size):
         return request
-    try:
-        body = await asyncio.wait_for(reader.readexactly(int(size)), BODY_TIME)
-    except asyncio.TimeoutError:
-        raise Wrong(408) from None
+    # A timeout of asyncio (before Python 3.12) would drop a cancellation that comes just as the body is whole.
+    with within(writer, BODY_TIME):
+        body = await reader.readexactly(int(size))
     return dataclasses.replace(request, body=body)

@@ -47,8 +47,13 @@ STATIC = os.path.join(os.path.dirname(os.path.abspath(__file__)), "static")
 KINDS = {".html": "text/html", ".js": "text/javascript", ".css": "text/css", ".svg": "image/svg+xml",
          ".json": JSON, ".webmanifest": "application/manifest+json", ".png": "image/png"}
 PAGES = {role.lower(): f"{role.lower()}.html" for role in ROLES}
-# The most bytes of a body: of somebody whom nobody knows, of a device, and of one that sends a list.
-FOR_ALL, FOR_DEVICES, FOR_LISTS = 4 << 10, 256 << 10, 5 << 20
+# The most bytes of a body: of somebody whom nobody knows, of a tap and of most else that a device sends, of what may be about
+# all boats, and of a list. While JSON is read all threads stand still: at the finish nobody needs more than a tap has.
+FOR_ALL, FOR_TAPS, FOR_MUCH, FOR_LISTS = 4 << 10, 16 << 10, 256 << 10, 5 << 20
+# What each role sends to an address that takes more than a tap has.
+ROOMS = {("JURY", "decide"): FOR_MUCH, ("SCORER", "list"): FOR_LISTS, ("SCORER", "new"): FOR_LISTS} | {
+    ("SCORER", name): FOR_MUCH
+    for name in ("correct", "declare", "open", "remove", "reopen", "rules", "save", "settings", "sheet")}
 # What a line of each role may begin with beside the lines that it sends.
 OWN = {"UNDO", "ABANDON"}
 
@@ -99,10 +104,9 @@ class Routes:
 
     def room_for(self, request: Request) -> int:
         """How many bytes a request's body may have."""
-        device = self.sender(request)
-        if device is None:
-            return FOR_ALL
-        return FOR_LISTS if request.parts[2:3] in (["list"], ["new"]) and device.role == "SCORER" else FOR_DEVICES
+        device = self.sender(request) if request.method == "POST" else None
+        name = "".join(request.parts[2:3])
+        return FOR_ALL if device is None or name == "in" else ROOMS.get((device.role, name), FOR_TAPS)
 
     async def answer(self, request: Request) -> Reply | Waiting:
         self.gate.check_host(request)
@@ -213,7 +217,7 @@ class Routes:
             return tagged(request, *self.file("worker.js"))
         device = self.gate.device(request, role)
         self.gate.asking.take(device.mark)
-        in_thread = functools.partial(self.in_thread, self.about(role, rest), self.about(device.mark, rest))
+        in_thread = functools.partial(self.in_thread, self.about(role, rest), self.about(device.mark, rest), self.shown_to, device)
         match rest:
             case ["me"]:
                 self.need_a_class()
@@ -237,6 +241,11 @@ class Routes:
             case ["sheet", name, race] if role == "SCORER":
                 return await in_thread(self.sheet, self.room(name), race)
         raise Wrong(404)
+
+    def shown_to(self, device: Device, work: Callable[..., Reply], *values: object) -> Reply:
+        """What is shown to a device; 401 if it was put out before it had its turn."""
+        self.gate.need(device)
+        return work(*values)
 
     def me(self, request: Request, role: str, device: Device) -> Values:
         classes = [{"class": name, "title": one.room.folder.settings.title,
@@ -302,12 +311,12 @@ class Routes:
 
     def answering(self) -> list[Class]:
         """The classes whose folders answer; of any other its office says that its folder doesn't."""
-        paths = {name: one.room.folder.path for name, one in self.office.classes.items()}
-        found = self.settings.answers({path: functools.partial(series_beside.settings_in, path) for path in paths.values()})
-        for name, path in paths.items():
+        classes = {one.room.folder.path: one for one in self.office.classes.values()}
+        found = self.settings.answers({path: functools.partial(series_beside.settings_in, path) for path in classes})
+        for path, one in classes.items():
             if path not in found:
-                self.office.classes[name].office.say(remark("folder-silent", path=path))
-        return [self.office.classes[name] for name, path in paths.items() if path in found]
+                one.office.say(remark("folder-silent", path=path))
+        return [one for path, one in classes.items() if path in found]
 
     # What is written
 
@@ -339,17 +348,18 @@ class Routes:
 
     def write_as_scorer(self, request: Request, device: Device, rest: list[str]) -> Reply:
         """What the scorer's page alone writes."""
+        need = functools.partial(self.gate.need, device)
         match rest:
             case ["key"]:
-                return self.new_key(request)
+                return self.new_key(request, need)
             case ["revoke"]:
-                self.gate.revoke(str(request.values().get("mark", "")))
+                self.gate.revoke(str(request.values().get("mark", "")), need=need)
                 return reply_of({})
             case ["open", name]:
                 self.office.add_again(name)
-                return self.open(request, self.room(name))
+                return self.open(request, need, self.room(name))
             case ["close", name]:
-                return self.close(request, self.room(name))
+                return self.close(request, need, self.room(name))
             case ["correct", name]:
                 return self.correct(request, device, self.room(name))
             case ["declare", name]:
@@ -357,7 +367,7 @@ class Routes:
             case ["list"]:
                 return reply_of(new_series.list_shown(request.values()))
             case ["reopen", name]:
-                return self.reopen(request, self.room(name))
+                return self.reopen(request, need, self.room(name))
             case ["listed", name]:
                 return self.name_boat(request, device, self.room(name))
             case ["remove", name]:
@@ -373,10 +383,10 @@ class Routes:
             case ["settings"]:
                 return reply_of(new_series.settings_shown(request.values()))
             case ["new"]:
-                return self.make(request)
+                return self.make(request, need)
             case ["serve"]:
                 served = self.office.served()
-                return self.serve(series_beside.path_of(self.office.parent, served, request.values(), self.settings))
+                return self.serve(series_beside.path_of(self.office.parent, served, request.values(), self.settings), need)
         raise Wrong(404)
 
     def line(self, request: Request, role: str, device: Device, room: Room) -> Reply:
@@ -443,38 +453,38 @@ class Routes:
 
     # What the scorer may do beside lines
 
-    def new_key(self, request: Request) -> Reply:
+    def new_key(self, request: Request, need: Callable[[], None]) -> Reply:
         """A new link of a role. The scorer who asks stays; a link that was lost is replaced with all its
-        devices."""
+        devices. `need` is 401 if the device was put out meanwhile."""
         values = request.values()
         role = str(values.get("role", "")).upper()
         if role not in ROLES:
             raise Wrong(400)
-        link = self.link(role, values.get("stay") is not True)
+        link = self.link(role, values.get("stay") is not True, need)
         return reply_of({"link": link, "code": qr.code(link)})
 
-    def link(self, role: str, are_devices_out: bool = True) -> str:
+    def link(self, role: str, are_devices_out: bool = True, need: Callable[[], None] = lambda: None) -> str:
         """A new link of a role, which is shown once."""
-        secret = self.gate.new_key(role, are_devices_out)
+        secret = self.gate.new_key(role, are_devices_out, need)
         return f"{self.office.address}office/in#{role.lower()}.{secret}"
 
-    def open(self, request: Request, room: Room) -> Reply:
+    def open(self, request: Request, need: Callable[[], None], room: Room) -> Reply:
         """Opens an office. What is asked before is answered beforehand, or comes back."""
         office = self.office.classes[room.folder.name].office
-        is_open = office.open(asked_of(request))
+        is_open = office.open(asked_of(request), need=need)
         return reply_of({"open": is_open, "said": office.words()})
 
-    def close(self, request: Request, room: Room) -> Reply:
+    def close(self, request: Request, need: Callable[[], None], room: Room) -> Reply:
         request.values()
         office = self.office.classes[room.folder.name].office
-        is_ours = office.close()
+        is_ours = office.close(need=need)
         return reply_of({"said": office.words(), "open": not is_ours and office.is_there()})
 
-    def reopen(self, request: Request, room: Room) -> Reply:
+    def reopen(self, request: Request, need: Callable[[], None], room: Room) -> Reply:
         """Closes an office and opens it with the settings as they are now. What is asked before is answered by
         yes beforehand, or comes back."""
         office = self.office.classes[room.folder.name].office
-        is_open = office.open_again_with_settings(asked_of(request))
+        is_open = office.open_again_with_settings(asked_of(request), need)
         return reply_of({"open": is_open, "said": office.words()})
 
     def rules(self, room: Room) -> Reply:
@@ -503,7 +513,7 @@ class Routes:
         sail = plain(boat_names.text_given(request.values(), "sail"))
         one.room.settle()
         self.gate.need(device)
-        copy = one.office.take_out(sail, device.name, asked_of(request))
+        copy = one.office.take_out(sail, device.name, asked_of(request), functools.partial(self.gate.need, device))
         one.room.news()
         return reply_of({"copy": copy, "open": one.office.is_there(), "said": one.office.words()})
 
@@ -546,12 +556,12 @@ class Routes:
         except Unasked as asked:
             return reply_of(asked.values, 409)
 
-    def make(self, request: Request) -> Reply:
+    def make(self, request: Request, need: Callable[[], None]) -> Reply:
         """Makes a series from a list and settings, and opens its office; not while the web ends."""
         self.office.need_open()
-        return self.serve(new_series.folder_made(self.office.parent, request.values()))
+        return self.serve(new_series.folder_made(self.office.parent, request.values()), need)
 
-    def serve(self, path: str) -> Reply:
+    def serve(self, path: str, need: Callable[[], None]) -> Reply:
         """Serves one more class, if it isn't served already, and opens its office. If something is asked before, it stays
         closed until the scorer opens it."""
         found = self.office.classes.get(os.path.basename(path))
@@ -559,7 +569,7 @@ class Routes:
         office = (found if found and is_here else self.office.add(Folder(path))).office
         is_open = False
         try:
-            is_open = office.open(ask_later)
+            is_open = office.open(ask_later, need=need)
         except Asked:
             office.say(remark("office-waits"))
         return reply_of({"class": os.path.basename(path), "open": is_open, "said": office.words()})

@@ -293,7 +293,7 @@ def sheets_shown(folder: Folder) -> dict[int, Values]:
             rows, wrong = [], trouble.said
         starts = sorted({row.cells["start"] for row in rows if row.cells["start"]})
         found[race] = {"start": starts[0] if len(starts) == 1 else "", "wrong": remarks_of(wrong),
-                       "rows": {row.sail: row_shown(row, race in nights) for row in rows if row.is_timed or row.code}}
+                       "rows": {row.sail: row_shown(row, race in nights, *starts[:1]) for row in rows if row.is_timed or row.code}}
     return found
 
 
@@ -321,8 +321,21 @@ def nights_of(folder: Folder) -> tuple[int, ...]:
         return ()
 
 
-def row_shown(row: Entry, is_overnight: bool) -> Values:
-    return {"finish": row.cells["finish"], "code": row.code, "elapsed": None if row.code else elapsed(row, is_overnight)}
+def row_shown(row: Entry, is_overnight: bool, start: str = "") -> Values:
+    """A row of a race whose first start is this."""
+    return {"finish": row.cells["finish"], "code": row.code, "elapsed": None if row.code else elapsed(row, is_overnight),
+            "crossed": crossed(row, is_overnight, start)}
+
+
+def crossed(row: Entry, is_overnight: bool, start: str) -> int | None:
+    """When a boat was at the line, in seconds of the day of her start; None if she has no time. Without a start of her own
+    she has that of the race."""
+    begun = row.cells["start"] or start
+    began = seconds_of(with_seconds("start", begun)) if begun else 0
+    if not row.cells["finish"]:
+        return began + seconds_of(row.cells["elapsed"]) if row.cells["elapsed"] else None
+    at = seconds_of(with_seconds("start", row.cells["finish"]))
+    return at + DAY if is_overnight and at < began else at
 
 
 def elapsed(row: Entry, is_overnight: bool) -> int | None:

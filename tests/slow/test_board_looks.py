@@ -20,7 +20,8 @@ USUAL, LARGE = 16, 32
 CUT = "(least => {" + TEXTS + """
 const range = document.createRange(), found = [];
 for (const part of texts) for (const node of part.childNodes) {
-  if (node.nodeType !== 3 || !node.data.trim()) continue;
+  // A picture shows the text of its labels alone.
+  if (node.nodeType !== 3 || !node.data.trim() || part.matches("svg, g")) continue;
   range.selectNodeContents(node);
   const box = range.getBoundingClientRect(), style = getComputedStyle(part);
   const size = parseFloat(style.fontSize) * (part.getScreenCTM?.().a ?? 1), high = parseFloat(style.lineHeight);

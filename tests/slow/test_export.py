@@ -163,7 +163,7 @@ class Results(Made):
         self.assertIn('data-now=""', text)
         self.assertNotIn('http-equiv="refresh"', text)
         for sail in ("GER 1207", "GBR 101"):
-            self.assertIn(f'<th scope="row" class="sail">{sail}<span', text)
+            self.assertIn(f'<th scope="row" class="sail">{sail}<i', text)
         self.results("cup", "--html", "one.html")
         self.assertIn('id="table"', self.text("one.html"))
 

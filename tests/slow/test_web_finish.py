@@ -115,6 +115,7 @@ class Finish(WebTrial):
         for sail in ("NED12", "FRA9", "GBR33", "IRL5"):
             ann.tap(sail)
         ann.until("document.querySelector('#link').textContent === '4 unsent · offline'")
+        self.assertEqual(ann.text("#heard"), "4 unsent · offline")
         self.assertEqual(self.journal(), finishes("GBR101", "GBR7"))
         # The page comes from its worker's memory: the computer itself counts as secure.
         ann.reload()
@@ -126,6 +127,7 @@ class Finish(WebTrial):
         ann.click("#undo")
         line.mend()
         self.settle(ann)
+        ann.until("document.querySelector('#heard').textContent === ''")
         self.assertEqual(self.journal(), finishes("GBR101", "GBR7", "NED12", "FRA9", "GBR33", "IRL5", "DEN61"))
         self.assertEqual(ann.texts("#list li .place"), [str(place) for place in range(1, 8)])
 

@@ -1,5 +1,5 @@
-"""Five devices tap over lines that drop at random: the journal is the taps. With WHOLE=1 in the environment each
-sends six hundred taps over two hundred drops; otherwise sixty over forty."""
+"""Five devices tap over lines that drop at random, two hundred times in all: the journal is the taps, six hundred of
+each."""
 from __future__ import annotations
 
 import os
@@ -11,7 +11,7 @@ from web_devices import Web, list_of
 from web_lines import played
 
 BOATS: list[tuple[str, ...]] = [(f"GBR {number}", f"Boat {number}", "A. Helm") for number in range(1, 101)]
-DEVICES, RACES, FINISHERS, DROPS = (5, 3, 100, 200) if os.environ.get("WHOLE") else (5, 1, 30, 40)
+DEVICES, RACES, FINISHERS, DROPS = 5, 3, 100, 200
 
 
 def plan_of(device: int) -> list[str]:

@@ -98,7 +98,7 @@ class TwoTimed(TimedTrial):
         """Boats of one second are in the order of their taps, with a start and without one."""
         phone = self.phone()
         for elapsed in ("null", "3600"):
-            rows = ", ".join(f"{sail}: {{finish: '15:00:00', code: '', elapsed: {elapsed}}}" for sail in ("GBR33", "NED80", "SWE2"))
+            rows = ", ".join(f"{sail}: {{finish: '15:00:00', code: '', elapsed: {elapsed}, crossed: 54000}}" for sail in ("GBR33", "NED80", "SWE2"))
             race = f"{{at: {{GBR33: 1700, NED80: 1100, SWE2: 1400}}, sheet: {{start: '', rows: {{{rows}}}}}}}"
             order = f"import('/office/static/race-view.js').then(({{atTheLine}}) => atTheLine({race}).order.join())"
             self.assertEqual(phone.run(order), "NED80,SWE2,GBR33", elapsed)

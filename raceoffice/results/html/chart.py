@@ -89,7 +89,7 @@ def axes(view: Snapshot, deepest: int, has_later: bool) -> Markup:
     lines = [together(tag("line", x1=LEFT, y1=height(rank, deepest), x2=right, y2=height(rank, deepest)),
                       tag("text", text, x=LEFT - 10, y=height(rank, deepest) + 5, text_anchor="end"))
              for rank, text in steps]
-    return tag("g", *races, *lines, class_="axes")
+    return tag("g", separated([*races, *lines], ", "), class_="axes")
 
 
 def picture(view: Snapshot) -> Markup:
@@ -102,7 +102,9 @@ def picture(view: Snapshot) -> Markup:
     high = height(deepest + (worst > deepest), deepest) + 16
     lines = [line(at, found[row.sail], deepest, text) for at, (row, text) in enumerate(zip(rows, labels))]
     which = f"the first {len(rows)} boats" if len(view.standing.rows) > len(rows) else "all boats"
-    drawn = tag("svg", axes(view, deepest, worst > deepest), *lines, width=rem(wide), height=rem(high),
+    # A picture shows no text but that of its labels; a browser that draws none shows all, one after the other.
+    parts = separated([axes(view, deepest, worst > deepest), *lines], ", ")
+    drawn = tag("svg", parts, width=rem(wide), height=rem(high),
                 viewBox=f"0 0 {wide} {high}", role="img", aria_label=f"Chart: the rank of {which} after "
                 "each race. The table below has the same for all boats.")
     return tag("div", drawn, class_="scroll", role="region", aria_label="Chart of ranks", tabindex=0)

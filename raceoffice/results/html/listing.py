@@ -20,7 +20,7 @@ def leaders(view: Snapshot) -> Markup:
     first = [row for row in view.standing.rows if row.rank == 1] if view.standing.races else []
     boats = [view.boat(row.sail) for row in first[:3]]
     which = "Leads" if view.settings.state == "provisional" else "First"
-    names = [together(tag("b", boat.sail), f" {boat.helm}") for boat in boats]
+    names = [together(tag("b", boat.sail), f", {boat.helm}" if boat.helm else "") for boat in boats]
     names += [together(len(first) - 3, " more")] if len(first) > 3 else []
     return tag("p", which, ": ", separated(names, " and ")) if names else NOTHING
 
@@ -49,7 +49,7 @@ def listing(views: Sequence[Snapshot]) -> str:
     titles = list(dict.fromkeys(view.settings.title for view in views))
     clubs = list(dict.fromkeys(view.settings.club for view in views if view.settings.club))
     title = titles[0] if len(titles) == 1 else "Results"
-    small = tag("small", clubs[0]) if len(clubs) == 1 else NOTHING
+    small = together(tag("small", clubs[0]), " ") if len(clubs) == 1 else NOTHING
     above = [texts[0] for texts in (titles, clubs) if len(texts) == 1]
     is_live = any(view.settings.state == "provisional" for view in views)
     body = tag("main", separated([

@@ -81,7 +81,7 @@ def tag(name: str, /, *parts: Part, **values: object) -> Markup:
         return Markup(f"{opened}>")
     if name in SHAPES:
         return Markup(f"{opened}/>")
-    return Markup(f"{opened}>{''.join(map(escaped, parts))}</{name}>")
+    return Markup("".join([opened, ">", *map(escaped, parts), f"</{name}>"]))
 
 
 def raw(name: str, text: str, **values: object) -> Markup:

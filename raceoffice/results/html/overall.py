@@ -7,7 +7,8 @@ from raceoffice.decisions.points import words_of
 from raceoffice.program.codes import AS_DNF
 from raceoffice.program.standing import Row, Score, tie_break
 from raceoffice.results.html.markup import NOTHING, Markup, separated, tag, together
-from raceoffice.results.html.page import bar, code, finding, foot, head, key, name_heads, points, rem, who, whole
+from raceoffice.results.html.page import (COMMA, bar, code, finding, foot, head, key, name_heads, points, rem, who,
+                                          whole)
 from raceoffice.results.html.sealing import block
 from raceoffice.results.snapshot import Snapshot
 from raceoffice.wording import TIMES, joined, one_decimal, ordinal, spans
@@ -30,7 +31,7 @@ th, td {{ padding: .65mm .3mm .35mm; }} thead th {{ font-size: {3}pt; }} thead t
 # A sheet upright has room for more boats and fewer races, and one across for few boats with the names in one
 # line each.
 UPRIGHT = "@page { size: A4 portrait; } .notes { columns: 3; }"
-IN_ONE_LINE = """.who b, .who span { display: inline; } .who b::after { content: "  "; white-space: pre; }
+IN_ONE_LINE = """.who b, .who span { display: inline; } .who b::after { content: " "; white-space: pre; }
 body { font-size: 7.4pt; } th, td { padding: .4mm .6mm 0; } .r abbr { font-size: 5.6pt; line-height: 1; }
 .notes { font-size: 6.4pt; columns: 5; }"""
 
@@ -65,7 +66,7 @@ def letter(number: int) -> str:
 
 def cell(score: Score) -> Markup:
     """A score, with its abbreviation below it."""
-    below = code(score.code) if score.code else NOTHING
+    below = together(" ", code(score.code)) if score.code else NOTHING
     if score.excluded:
         shown = tag("del", "(", points(score.points), tag("s", ")"), class_="p")
         return tag("td", shown, tag("span", " excluded", class_="hidden"), below, class_="r")
@@ -84,10 +85,13 @@ def rank(view: Snapshot, row: Row) -> Markup:
 def line(view: Snapshot, row: Row, mark: str) -> Markup:
     """A boat's row in the overall results."""
     boat = view.boat(row.sail)
-    tie = tag("a", mark, href=f"#{view.ids}tie-{mark}", aria_label=f"tie, note {mark}") if mark else NOTHING
+    tie = NOTHING
+    if mark:
+        tie = together(" ", tag("a", mark, href=f"#{view.ids}tie-{mark}", aria_label=f"tie, note {mark}"))
     total = tag("td", points(view.totals[row.sail]), class_="total") if view.totals else NOTHING
     net = points(row.net) if view.standing.races else together("–")
-    helm = tag("span", boat.helm or boat.name, class_="helm")
+    named = boat.helm or boat.name
+    helm = together(COMMA, tag("span", named, class_="helm")) if named else NOTHING
     return tag("tr", rank(view, row), tag("th", boat.sail, helm, scope="row", class_="sail"),
                tag("td", who(boat), class_="who"), tag("td", net, tie, class_="net"),
                *map(cell, row.scores), total, id=f"{view.ids}{row.sail}",
@@ -139,7 +143,7 @@ def second_table(view: Snapshot, prefix: str | None) -> Markup:
 # The notes below it
 
 def ties(view: Snapshot) -> Markup:
-    items = [tag("li", tag("b", letter(at)), tie_words(view, group), id=f"{view.ids}tie-{letter(at)}")
+    items = [tag("li", tag("b", letter(at), " "), tie_words(view, group), id=f"{view.ids}tie-{letter(at)}")
              for at, group in enumerate(view.ties())]
     if not items:
         return NOTHING

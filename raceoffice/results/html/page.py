@@ -37,7 +37,13 @@ def styles(text: str) -> str:
     return '"' + re.sub(r'[^ \w.,:;()+–·-]', lambda odd: f"\\{ord(odd[0]):x} ", text, flags=re.ASCII) + '"'
 
 
-# Small parts
+# Small parts. Where style alone would part two texts, a blank or a comma does, too: browsers without styles show
+# them one after the other.
+
+# No sail has a comma in it, so that a boat isn't taken for one whose sail goes on as her helm's name begins. It is heard,
+# and not seen.
+COMMA = tag("i", ", ", class_="hidden")
+
 
 def rem(pixels: int) -> str:
     """A length that grows with the size of text that somebody has chosen: so many pixels at the usual one."""
@@ -56,7 +62,7 @@ def code(word: str) -> Markup:
 
 def who(boat: Boat) -> Markup:
     first, *rest = [text for text in (boat.helm, boat.name, boat.club) if text] or [""]
-    return together(tag("b", first), tag("span", " · ".join(rest)) if rest else NOTHING)
+    return together(tag("b", first), " ", tag("span", " · ".join(rest))) if rest else tag("b", first)
 
 
 def finding(view: Snapshot, sail: str) -> str:
@@ -118,7 +124,7 @@ def head(view: Snapshot, is_among: bool, above: str, title: str, facts: Sequence
     said, changed = view.reasons
     noted = tag("p", said, class_=f"reason {shown.state}") if said else NOTHING
     alarm = tag("p", changed, class_="reason changed") if changed else NOTHING
-    small = tag("small", above) if above else NOTHING
+    small = together(tag("small", above), " ") if above else NOTHING
     items = [*(tag("li", fact) for fact in facts), *(tag("li", fact, class_="aside") for fact in asides)]
     return together(nav(view, is_among),
                     tag("header", "\n", tag("h1", small, title), "\n", state(view), "\n"), "\n", noted, alarm,
@@ -205,13 +211,13 @@ def framed(title: str, live: str, every: int, version: str, now: str, body: Mark
         tag("meta", name="viewport", content="width=device-width, initial-scale=1"),
         tag("meta", name="color-scheme", content="light dark"), tag("title", title),
         raw("style", assets.style() + style), refresh], "\n")
-    parts = separated([
-        "", tag("a", "To the table", class_="skip", href=f"#{table}"), alarm,
-        tag("p", class_="once", id="once", hidden=True), together(beware, body),
-        script(), ""], "\n")
+    skip = tag("a", "To the table", class_="skip", href=f"#{table}")
+    once = tag("p", class_="once", id="once", hidden=True)
+    # A page may be long: what is put together here has no name, so that it isn't held longer than it takes.
     return document(tag(
-        "html", "\n", tag("head", head), "\n", tag("body", parts), "\n", lang="en", data_live=live,
-        data_every=every, **UNCONFIRMED, data_version=version, data_now=now))
+        "html", "\n", tag("head", head), "\n",
+        tag("body", separated(["", skip, alarm, once, together(beware, body), script(), ""], "\n")), "\n", lang="en",
+        data_live=live, data_every=every, **UNCONFIRMED, data_version=version, data_now=now))
 
 
 def is_ours(path: str) -> bool:

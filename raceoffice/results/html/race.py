@@ -32,12 +32,12 @@ def remarks(view: Snapshot, race: Race, sail: str) -> Markup:
 def row(view: Snapshot, race: Race, sail: str, first: Markup, with_time: bool) -> Markup:
     scores, boat = view.scores(race.number), view.boat(sail)
     cells = [tag("td", first, class_="place"), tag("th", boat.sail, scope="row", class_="sail"),
-             tag("td", who(boat), remarks(view, race, sail), class_="who")]
+             tag("td", who(boat), " ", remarks(view, race, sail), class_="who")]
     below = NOTHING
     if with_time:
         time = duration(race.times[sail])
         cells.append(tag("td", time, class_="time"))
-        below = tag("span", time, class_="below")
+        below = together(" ", tag("span", time, class_="below"))
     if scores:
         cells.append(tag("td", points(scores[sail].points), below, class_="pts"))
     return tag("tr", *cells, data_find=finding(view, sail))
@@ -50,7 +50,7 @@ def heads(view: Snapshot, race: Race, first: str, with_time: bool) -> Markup:
     if with_time:
         cells.append(tag("th", "Corrected", scope="col", class_="time"))
     if view.scores(race.number):
-        below = tag("span", "Corrected", class_="below") if with_time else NOTHING
+        below = together(" ", tag("span", "Corrected", class_="below")) if with_time else NOTHING
         cells.append(tag("th", "Points", below, scope="col", class_="pts"))
     return tag("thead", tag("tr", *cells))
 

@@ -15,7 +15,7 @@ const MOVED = 250, SETTLE = 3500;
 const FEW = 6;
 
 // The boats in the order in which they keep their places; what was drawn last and before that, and when it changed.
-let holding = [], drawn = [], drawnBefore = [], still = 0, settling = 0;
+let holding = [], drawn = [], drawnBefore = [], drawnAt = NaN, still = 0, settling = 0;
 
 export function startGridAgain() {
   holding = [];
@@ -60,9 +60,9 @@ function boatsToShow(all) {
 }
 
 function boatsInPlace(all, open) {
-  if (!holding.length) holding = open.map(keyOf);
+  holding.push(...open.map(keyOf).filter(key => !holding.includes(key)));
   const byKey = new Map(all.map(boat => [keyOf(boat), boat]));
-  const found = [...holding.map(key => byKey.get(key)).filter(Boolean), ...open.filter(boat => !holding.includes(keyOf(boat)))];
+  const found = holding.map(key => byKey.get(key)).filter(Boolean);
   if (!settling && found.some(boat => boat.isDone || boat.code)) settleSoon();
   return found;
 }
@@ -74,12 +74,24 @@ export function drawGrid() {
   fill(grid, boats.length ? boats.map(boatButton) : element("p", {}, noBoats(all)));
   byId("digits").hidden = !page.digits;
   fill(byId("digits"), element("span", {}, page.digits), element("small", {}, text("common.boats", {n: boats.length})));
+  noteTop(Math.round(grid.getBoundingClientRect().top));
+}
+
+// What comes and goes above the boats moves all of them.
+function noteTop(top) {
+  if (top === drawnAt) return;
+  [drawnAt, drawnBefore] = [top, []];
+  waitUntilStill();
 }
 
 function notePlaces(places, isSameGrid) {
   if (places.join() === drawn.join()) return;
   drawnBefore = isSameGrid ? drawn : [];
   drawn = places;
+  waitUntilStill();
+}
+
+function waitUntilStill() {
   byId("grid").dataset.moving = "yes";
   clearTimeout(still);
   still = setTimeout(() => { delete byId("grid").dataset.moving; }, MOVED);

@@ -10,11 +10,13 @@ import {buzz} from "./finish-taps.js";
 
 // Milliseconds of a long press, and pixels of a swipe to the left
 const LONG = 700, SWIPE = 70, STILL = 12;
-const NEAR_END = 40;
+// So near is the end of the list that it is shown whole, also once the list is shorter by a banner.
+const NEAR_END = 40, NEAR_BANNER = 110;
 let rowsBefore = 0;
 
 export function drawList() {
-  const list = byId("list"), wasAtEnd = list.scrollTop + list.clientHeight > list.scrollHeight - NEAR_END;
+  const list = byId("list"), near = list.classList.contains("short") ? NEAR_BANNER : NEAR_END;
+  const wasAtEnd = list.scrollTop + list.clientHeight > list.scrollHeight - near;
   const lists = each(page.classes, (one, place) => page.races[one.class] ? rowsOf(one, place) : []);
   const rows = merged(lists);
   fill(list, rows.map(row => row.node), each(queue.items.filter(isLeft), leftRow));
@@ -77,10 +79,11 @@ function progress(state, by, isWaiting) {
 const withGroup = (one, words) => [page.classes.length > 1 ? one.group : "", words].filter(Boolean).join(" · ");
 
 function unreadRow(one, place, row) {
-  const {gap} = row, name = one.class, isUnsent = gap.state === "unsent", isOnWay = gap.state === "way";
-  const words = isUnsent ? text("finish.unsent") : isOnWay ? "…" : text("finish.kept");
+  const {gap} = row, name = one.class, isAsked = gap.state === "asked", isUnsent = isAsked || gap.state === "unsent";
+  const words = isAsked ? text("finish.answerHere") : isUnsent ? text("finish.unsent") : gap.state === "way" ? "…" : text("finish.kept");
+  const item = isAsked && queue.items.find(({id}) => id === gap.id), askWho = () => gap.mark !== "?" && withPart("rows", ({askUnread}) => askUnread(name, gap.mark));
   return element("li", {class: `class${place} unread ${isUnsent ? "unsent" : ""}`, "data-key": `${name} ${gap.mark} ${gap.at ?? ""}`},
-    element("button", {type: "button", class: "finisher", onclick: () => gap.mark !== "?" && withPart("rows", ({askUnread}) => askUnread(name, gap.mark))},
+    element("button", {type: "button", class: "finisher", onclick: () => item ? answer(item) : askWho()},
       element("span", {class: "place", "aria-label": ordinal(row.place)}, row.place), element("span", {class: "sail"}, gap.mark),
       element("span", {class: "name"}, withGroup(one, text("finish.notRead"))),
       element("span", {class: "end"}, element("b", {}, clock(name, gap.at)), element("i", {}, words))));

@@ -128,17 +128,18 @@ export function addMoment(name) {
 // Whose a moment was, by a line; nobody's without one. If its race was abandoned meanwhile, the office asks.
 export function endMoment(name, mark, line) {
   const found = allMomentsOf(name).findLast(one => one.mark === mark);
-  found.by = line ? addTap(name, line, {at: found.at, clock: found.clock}).id : "-";
+  found.by = line ? addTap(name, line, {at: found.at, clock: found.clock}).id : newId();
+  if (!line) noteUndoable({id: found.by, class: name, line: `${mark} ${found.race} NONE`, isOwn: true});
   keepMoment(found);
 }
 
-// Takes back what a tap did to a moment; whether that was all.
-export function undoMoment({id}) {
+// Takes back what a tap did to a moment; whether that was all. Of one that `isOwn` the office knows nothing.
+export function undoMoment({id, isOwn = false}) {
   const count = page.moments.length;
   forgetMoment({id});
   for (const one of page.moments.filter(({by}) => by === id)) keepMoment(Object.assign(one, {by: ""}));
   page.redraw();
-  return page.moments.length < count;
+  return isOwn || page.moments.length < count;
 }
 
 // Whether a class is scored by corrected time: each tap has its time, and level or ahead are nothing there.

@@ -29,6 +29,9 @@ function drawLink() {
   const unsent = queue.items.filter(item => stateOf(item) === "unsent").length, isLive = page.link === "live", isAway = unsent || !isLive || trouble();
   byId("link").className = `link ${isOut ? "bad" : isAway ? "away" : ""}`;
   byId("link").textContent = linkWords(unsent, isLive);
+  // Who can't see the sign hears it, unless all is well.
+  const heard = byId("link").textContent.replace(text("common.live"), "");
+  if (byId("heard").textContent !== heard) byId("heard").textContent = heard;
   byId("link").dataset.state = isOut ? "out" : !isAway ? "live" : isLive ? "sending" : "away";
 }
 
@@ -45,6 +48,7 @@ function drawBanner() {
     level: () => text("finish.tapLevelWith", {sail: whom()}), before: () => text("finish.tapAheadOf", {sail: whom()}),
     known: () => text("finish.tapWhoWas", {mark: whom()})}[kind];
   byId("banner").hidden = kind === "finish";
+  byId("list").classList.toggle("short", kind !== "finish");
   byId("banner").classList.toggle("code", kind === "code");
   fill(byId("banner"), words ? [element("span", {}, words()),
     element("button", {type: "button", onclick: () => setMode({kind: "finish"})}, text(kind === "round" ? "finish.done" : "common.cancel"))] : []);

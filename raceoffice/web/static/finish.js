@@ -35,7 +35,8 @@ function takeState(name, state) {
   if (held?.series && held.series !== state.series) forgetRaces(name);
   page.states[name] = state;
   keep(`state:${name}`, {...state, isOld: true});
-  if (page.races[name] === undefined && page.classes.length === 1) {
+  // A class that waits to be opened tells no boats, nor which of its races count.
+  if (page.races[name] === undefined && page.classes.length === 1 && state.boats.length) {
     page.races[name] = usualRace(state);
     keep("races", page.races);
   }

@@ -8,7 +8,8 @@ export function emptyRace() {
   return {counts: false, order: [], codes: {}, penalties: {}, redress: {}, at: {}, by: {}, unread: []};
 }
 
-export const isIn = (race, sail) => race.order.some(group => group.includes(sail));
+// Whether a boat has finished: she is in the order, or her corrected time alone is known.
+export const isIn = (race, sail) => race.order.some(group => group.includes(sail)) || Boolean(race.untold?.includes(sail));
 const groupOf = (race, sail) => race.order.findIndex(group => group.includes(sail));
 
 // The last boat in the order, or "" if there is none
@@ -18,12 +19,12 @@ export const lastBoat = race => race.order.at(-1)?.[0] ?? "";
 export const heldBy = (race, sail) => [race.codes[sail], ...(race.penalties[sail] ?? [])].filter(Boolean);
 
 // A race by corrected time as it was at the line: its order by the clock, of one second by their taps, codes and elapsed
-// times from its sheet.
+// times from its sheet. Nobody can tell from a corrected time alone when its boat was there.
 export function atTheLine(race) {
-  const rows = Object.entries(race?.sheet?.rows ?? {}), finished = rows.filter(([, row]) => row.finish);
-  const time = row => row.elapsed ?? row.finish, at = sail => race.at?.[sail] ?? 0;
-  finished.sort(([sail, one], [next, other]) => time(one) === time(other) ? at(sail) - at(next) : time(one) < time(other) ? -1 : 1);
-  return {...emptyRace(), ...race, order: finished.map(([sail]) => [sail]), start: race?.sheet?.start ?? "", waiting: waitingIn(race),
+  const rows = Object.entries(race?.sheet?.rows ?? {}), finished = rows.filter(([, row]) => typeof row.crossed === "number");
+  const at = sail => race.at?.[sail] ?? 0, untold = Object.keys(race?.times ?? {}).filter(sail => !finished.some(([other]) => other === sail));
+  finished.sort(([sail, one], [next, other]) => one.crossed - other.crossed || at(sail) - at(next));
+  return {...emptyRace(), ...race, order: finished.map(([sail]) => [sail]), untold, start: race?.sheet?.start ?? "", waiting: waitingIn(race),
     codes: {...race?.codes, ...Object.fromEntries(rows.filter(([, row]) => row.code).map(([sail, row]) => [sail, row.code]))},
     elapsed: Object.fromEntries(finished.map(([sail, row]) => [sail, row.elapsed]))};
 }
@@ -55,7 +56,7 @@ function followTap(race, item, state) {
   else if (command === "PENALTY") (race.penalties[sail] ??= []).push(other);
   else if (command === "CLEAR") [race.codes, race.penalties, race.redress].forEach(held => delete held[sail]);
   else if (command === "START") race.start = sail ?? "…";
-  else if (command === "?") race.unread.push({mark: "?", after: race.order.length, at: item.at, state});
+  else if (command === "?") race.unread.push({mark: "?", id: item.id, after: race.order.length, at: item.at, state});
   else if (command.startsWith("?")) followKnown(race, item, state);
   if (command === "MARK" || command === "PENALTY") race.unsent[sail] = state;
 }
