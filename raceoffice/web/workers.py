@@ -9,8 +9,8 @@ from collections.abc import Callable
 from concurrent.futures import Future, ThreadPoolExecutor
 from typing import TypeVar
 
-# How many threads each role has for each class and for all else, and so have strangers. So many requests of one device, or of the strangers at one address,
-# have a thread or wait in line for one.
+# How many threads each role has for each class and for all else, and so have strangers. So many requests of one device, or
+# of the strangers at one address, have a thread or wait in line for one.
 THREADS, AT_ONCE = 10, 3
 Done = TypeVar("Done")
 

@@ -19,7 +19,7 @@ class TimedTrial(WebTrial):
                "lev": "Sail,Boat\nGBR 33,Turnstone\nGBR 101,Kestrel\nNED 12,Windhover\n"}
     titles = {"cup": "Folkboats", "fleet": "Dinghies", "lev": "Dragons"}
     settings = {"zone": "UTC"}
-    timed = ("cup", "fleet")
+    timed: tuple[str, ...] = ("cup", "fleet")
 
     def make(self, name: str, entries: str = helpers.ENTRIES, **values: str) -> str:
         return super().make(name, entries, **values, **({"handicap": "yes"} if name in self.timed else {}))
