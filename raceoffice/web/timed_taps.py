@@ -328,12 +328,12 @@ def row_shown(row: Entry, is_overnight: bool, start: str = "") -> Values:
 
 
 def crossed(row: Entry, is_overnight: bool, start: str) -> int | None:
-    """When a boat was at the line, in seconds of the day of her start; None if she has no time. Without a start of her own
-    she has that of the race."""
+    """When a boat was at the line, in seconds of the day of her start; None if she has no time, or a code and no finish.
+    Without a start of her own she has that of the race."""
     begun = row.cells["start"] or start
     began = seconds_of(with_seconds("start", begun)) if begun else 0
     if not row.cells["finish"]:
-        return began + seconds_of(row.cells["elapsed"]) if row.cells["elapsed"] else None
+        return began + seconds_of(row.cells["elapsed"]) if row.cells["elapsed"] and not row.code else None
     at = seconds_of(with_seconds("start", row.cells["finish"]))
     return at + DAY if is_overnight and at < began else at
 
