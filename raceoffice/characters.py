@@ -25,11 +25,13 @@ JOINS = [(kind, re.compile(f"[{signs}]")) for kind, signs in (
     ("t", "\u11a8-\u11ff\ud7cb-\ud7fb"), ("s", "\uac00-\ud7a3"),
     ("p", "\u0d4e\U000111c2\U000111c3\U000113d1\U0001193f\U00011941\U00011a3a\U00011a84-\U00011a89\U00011d46\U00011f02"))]
 # Marks after what joins two letters belong to that. Any other sign is a letter (c).
-JOINING = re.compile("k[om]+")
-# More signs than any writing makes one letter of. Four marks over a letter lie over the lines around it. No line is
+JOINING = re.compile("k[omb]+")
+# The blocks in which four marks and more of a letter stand at its sides (b), as in Burmese and Tibetan
+BESIDE = re.compile("[\u0f00-\u109f\ua9e0-\ua9ff\uaa60-\uaa7f]")
+# More signs than any writing makes one letter of. Four marks over a letter lie over the lines around it, or six. No line is
 # broken in a letter: one with nine marks, nine parts of a kind, or twelve signs that join pushes off a page what is
 # beside it.
-PILE = re.compile(r"[ok]{4,}|[okm]{9,}|([lvtp])\1{8,}|(?:[okm]|(?<=p)[^ ]|(?<=l)[lvs]|(?<=[vs])[vt]|(?<=t)t|(?<=k)c){12}")
+PILE = re.compile(r"[ok]{4,}|[okb]{6,}|[okmb]{9,}|([lvtp])\1{8,}|(?:[okmb]|(?<=p)[^ ]|(?<=l)[lvs]|(?<=[vs])[vt]|(?<=t)t|(?<=k)c){12}")
 # Signs of a line that is said, and of what is quoted; longer ones are cut.
 MOST, QUOTED = 100, 60
 # A sign that stands for a space.
@@ -45,7 +47,7 @@ NEWER = re.compile("[\u0897-\u089f\u08ca-\u08d2\u0c3c\u1715\u1ac1-\u1ace\u1dfa\u
                    "\U0001e2ae\U0001e4ec-\U0001e4ef\U0001e5d0-\U0001e5ff]")
 # The blocks of what is written from right to left, and those of Unicode after 3.2 with signs that are turned among it.
 RIGHT_TO_LEFT = re.compile("[\u0590-\u08ff\ufb1d-\ufdff\ufe70-\ufeff\U00010800-\U00010fff\U0001e800-\U0001efff]")
-TURNED = re.compile("[\u27c0-\u27ef\u2b00-\u2bff\u2e00-\u2e7f]")
+TURNED = re.compile("[\u0f3a-\u0f3d\u169b\u169c\u27c0-\u27ef\u2b00-\u2bff\u2e00-\u2e7f]")
 # It calls this one a dash.
 SOFT_HYPHEN = "\u00ad"
 
@@ -92,7 +94,9 @@ def kind_of(sign: str) -> str:
     if found := next((kind for kind, signs in JOINS if signs.match(sign)), ""):
         return found
     category = unicodedata.category(sign)
-    return "o" if category in ("Mn", "Me") else "m" if category == "Mc" else " " if sign.isspace() else "c"
+    if category in ("Mn", "Me"):
+        return "b" if BESIDE.match(sign) else "o"
+    return "m" if category == "Mc" else " " if sign.isspace() else "c"
 
 
 def kinds_of(text: str) -> str:

@@ -14,7 +14,8 @@ from on_water import OnWater, lines_of_swap
 from raceoffice.errors import NotSent
 from raceoffice.remarks import Remark, remark
 from raceoffice.series.folder import Folder
-from raceoffice.session.finishers import MORE
+from raceoffice.series.kept_places import Twin
+from raceoffice.session.finishers import MORE, keep
 from raceoffice.web.corrections import correct
 from raceoffice.web.finish_order import Elsewhere
 from raceoffice.web.room import Room
@@ -497,6 +498,12 @@ class Most(OnWater):
             self.assertRaisesRegex(NotSent, f"race 1 keeps {self.most} places, more than boats are entered", session.do, typed)
         self.assertEqual((self.text("cup", "office", "places"), self.text("cup", "office", "web.taps")), (noted, taps))
         self.assertEqual(self.refused("? 2"), "")
+
+    def test_of_no_class(self) -> None:
+        """Of whom nobody knows the class is kept in each, or she might be in none."""
+        session = self.window_bob.session
+        self.assertTrue(keep(session, session.facts.race("1"), twin=Twin("0" * 16, ("../fleet",))))
+        self.assertEqual(len(self.shown(1)["unread"]), self.most + 1)
 
     def test_room_again(self) -> None:
         """Once somebody is known, or it is said that nobody was there, there is room for one more; then that isn't taken back."""

@@ -20,7 +20,7 @@ from raceoffice.web import hosting
 from raceoffice.web.gate import Gate
 from raceoffice.web.hosting import Host, Hub, Waiting
 from raceoffice.web.rates import Rate
-from raceoffice.web.requests import HEAD, Reply, Request, Wrong, hashed, packed, request_of
+from raceoffice.web.requests import COOKIES, HEAD, Reply, Request, Wrong, hashed, packed, request_of
 from raceoffice.web.routes import Routes
 from raceoffice.web.web_office import WebOffice
 from web_devices import BOATS, READY, Device, Web, is_known, list_of, new_id
@@ -464,7 +464,7 @@ class Heads(unittest.TestCase):
             for _ in range(3):
                 self.assertEqual(routes.name_of(request), next(iter(gate.devices)))
             self.assertGreater(routes.room_for(request), 0)
-        self.assertLessEqual(len(summed), 16)
+        self.assertLessEqual(len(summed), COOKIES)
 
     @staticmethod
     def spent(routes: Routes, head: bytes) -> float:

@@ -18,7 +18,7 @@ import helpers
 from raceoffice.results.http_answers import Board
 from raceoffice.web import hosting, workers
 from raceoffice.web.gate import DEVICES, QUIET, ROLES, Device, Gate, plain_name
-from raceoffice.web.hosting import PIECE, Host
+from raceoffice.web.hosting import PIECE, TOGETHER, Host
 from raceoffice.web.page_news import PageNews
 from raceoffice.web.rates import Rate
 from raceoffice.web.requests import Reply, Request, Wrong
@@ -233,7 +233,7 @@ class Connections(unittest.IsolatedAsyncioTestCase):
         self.assertEqual(await asyncio.wait_for(reader.read(), helpers.PATIENCE), b"")
 
     async def test_many_heads_at_once(self) -> None:
-        """Of an address whose heads come at once, one is read in each turn of the loop; another one doesn't wait for them."""
+        """Of an address whose heads come at once, some are read in each turn of the loop; another one doesn't wait for them."""
         turns, seen = [0], list[tuple[str, int]]()
 
         async def answer(request: Request) -> Reply:
@@ -256,8 +256,8 @@ class Connections(unittest.IsolatedAsyncioTestCase):
             link.sendall(GET)
         await self.until(lambda: len(seen) == len(links))
         counting.cancel()
-        self.assertEqual(max(collections.Counter(seen).values()), 1)
-        self.assertLess([address for address, _ in seen].index("127.0.0.3"), 10)
+        self.assertIn(max(collections.Counter(seen).values()), range(2, TOGETHER + 2))
+        self.assertLess([address for address, _ in seen].index("127.0.0.3"), 2 * TOGETHER + 2)
 
     async def test_files_left(self) -> None:
         """Files are left to the rest of the process, for many classes; by HTTPS there are fewer connections."""

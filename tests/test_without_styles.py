@@ -56,6 +56,14 @@ class WithoutStyles(ForgedPages):
             self.assertIn(["Leads: GBR 10, 1 A. Moss"], Unstyled(pages[f"{name} listed"]).texts())
 
 
+    def test_commas(self) -> None:
+        """Also where a cell of a table is parted from the next by a blank alone, a comma ends each sail that something follows."""
+        for name, page in self.all_pages().items():
+            cells = [text for texts in Unstyled(page).texts() if len(texts) > 1 for text in texts]
+            with self.subTest(name):
+                self.assertEqual({*cells} & {"GBR 10", "GBR 101", "NED 1"}, set())
+
+
 def sails(page: str) -> list[str]:
     """The sail that each row of a table shows."""
     return [text.partition(",")[0] for texts in Unstyled(page).texts() if len(texts) > 1

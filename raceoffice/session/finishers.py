@@ -45,7 +45,9 @@ def race_of(seat: Seat, mark: str, sail: list[str]) -> Race:
 def keep(seat: Seat, race: Race, typed: str = "", why: str = "", twin: Twin = Twin()) -> bool:
     """Keeps the place of a finisher at the end of the order as it is now. `twin` says in which other classes she
     is kept."""
-    need_room(seat, race.number)
+    if not twin.finisher:
+        # One of whom nobody knows the class is kept in each, or she might be in none.
+        need_room(seat, race.number)
     mark = seat.keep(race, typed, twin)
     seat.say_of("place-kept", mark=mark, why=why)
     return True

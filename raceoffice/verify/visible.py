@@ -67,7 +67,7 @@ class Table:
 
     def sail(self, at: int) -> str:
         """The sail of a row, as it is shown first in its cell."""
-        return next((cell.text for cell in self.rows[at] if cell.is_sail), "")
+        return next((cell.text.removesuffix(",") for cell in self.rows[at] if cell.is_sail), "")
 
 
 class Seen:

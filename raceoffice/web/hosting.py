@@ -42,9 +42,9 @@ WATCHING = 600
 AT_ONCE, EACH_SECOND = 600, 300
 # Bytes of an answer that are handed over at a time: a client that takes none of them holds no more.
 PIECE = 64 << 10
-# How many may wait to be let in, how many are let in at once, and for how many turns of the loop the next ones wait until
-# those that were given up have ended, which takes a few.
-WAITING, TOGETHER, ENDING = 1024, 16, 100
+# How many may wait to be let in, how many are let in at once, also by HTTPS, where each takes a millisecond and more, and for
+# how many turns of the loop the next ones wait until those that were given up have ended, which takes a few.
+WAITING, TOGETHER, TOGETHER_SECURE, ENDING = 1024, 16, 4, 100
 # Seconds for a connection to end in order.
 MOMENT = 1.0
 # Who has a connection, if it isn't that of a device: one that has asked for nothing yet, or a stranger. Seconds for which the
@@ -256,8 +256,12 @@ class Queues:
         await turn
 
     def give_turns(self) -> None:
-        """Gives the next one of each address its turn."""
-        self.waiting = {address: turns for address, turns in self.waiting.items() if is_given(turns)}
+        """Gives the next one of each address its turn, and more of each while those are few in all: a turn of the loop may have
+        much else to do."""
+        given = 0
+        while given == 0 or 0 < len(self.waiting) <= TOGETHER - given:
+            self.waiting = {address: turns for address, turns in self.waiting.items() if is_given(turns)}
+            given += max(1, len(self.waiting))
         if self.waiting:
             asyncio.get_running_loop().call_soon(self.give_turns)
 
@@ -325,7 +329,7 @@ class Host:
                     visit.add_done_callback(functools.partial(self.forget, address, link))
                 else:
                     link.close()
-                if number % TOGETHER == 0:
+                if number % (TOGETHER_SECURE if secure else TOGETHER) == 0:
                     # Those who are in have their turn, too.
                     await asyncio.sleep(0)
                 await self.wait_for_ends()

@@ -27,7 +27,7 @@ HEAD, LINE = 16 << 10, 2 << 10
 FIELDS, PARTS = 100, 16
 # What follows the role in a cookie by which a device may be known; the name of an older package's has no more. This many of
 # a role are read: a browser has one for each office of a computer.
-COOKIE, COOKIES = re.compile("(?:-[0-9a-f]{8})?=([^; ]{43,})"), 16
+COOKIE, COOKIES = re.compile("(?:-[0-9a-f]{8})?=([^; ]{43,})"), 64
 REASONS = {200: "OK", 204: "No Content", 301: "Moved Permanently", 304: "Not Modified",
            400: "Bad Request", 401: "Unauthorized", 403: "Forbidden", 404: "Not Found",
            405: "Method Not Allowed", 409: "Conflict", 413: "Content Too Large",

@@ -228,7 +228,7 @@ class Results(Made):
         self.week()
         self.results("dragon", "--html", "out.html")
         text = self.text("out.html").partition("<details>")[2].partition("</details>")[0]
-        rows = [re.findall(r"<t[hd][^>]*>([^<]*)</t", row) for row in text.split("<tr>")[2:]]
+        rows = [re.findall(r"<t[hd][^>]*>([^<]*)(?:<i [^>]*>, </i>)?</t", row) for row in text.split("<tr>")[2:]]
         self.assertEqual((len(rows), {len(row) for row in rows}), (45, {13}))
         self.assertEqual([rows[0][0], rows[0][-1], rows[-1][-1]], ["GER 1207", "1", "44="])
 

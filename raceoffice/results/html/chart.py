@@ -7,7 +7,7 @@ from __future__ import annotations
 
 from raceoffice.program.standing import Row
 from raceoffice.results.html.markup import NOTHING, Markup, separated, tag, together
-from raceoffice.results.html.page import rem
+from raceoffice.results.html.page import rem, sail_head
 from raceoffice.results.snapshot import Snapshot
 
 # How many boats have a line, and the last rank that has a height of its own.
@@ -114,7 +114,7 @@ def table(view: Snapshot) -> Markup:
     """The same as a table, for all boats."""
     found = ranks(view)
     heads = [tag("th", f"R{number}", scope="col") for number in view.standing.races]
-    rows = [tag("tr", tag("th", view.boat(row.sail).sail, scope="row", class_="sail"),
+    rows = [tag("tr", sail_head(view.boat(row.sail)),
                 *(tag("td", rank, "=" if shared else "") for rank, shared in found[row.sail]))
             for row in view.standing.rows]
     made = tag("table", "\n", tag("caption", f"Rank after each race, {view.label}", class_="hidden"), "\n",

@@ -7,8 +7,8 @@ from raceoffice.decisions.points import words_of
 from raceoffice.program.codes import AS_DNF
 from raceoffice.program.standing import Row, Score, tie_break
 from raceoffice.results.html.markup import NOTHING, Markup, separated, tag, together
-from raceoffice.results.html.page import (COMMA, bar, code, finding, foot, head, key, name_heads, points, rem, who,
-                                          whole)
+from raceoffice.results.html.page import (COMMA, bar, code, finding, foot, head, key, name_heads, points, rem, sail_head,
+                                          who, whole)
 from raceoffice.results.html.sealing import block
 from raceoffice.results.snapshot import Snapshot
 from raceoffice.wording import TIMES, joined, one_decimal, ordinal, spans
@@ -130,8 +130,7 @@ def second_table(view: Snapshot, prefix: str | None) -> Markup:
     if not races:
         return NOTHING
     rows = [tag("tr", rank(view, row),
-                tag("th", view.boat(row.sail).sail, scope="row", class_="sail"),
-                tag("td", who(view.boat(row.sail)), class_="who"),
+                sail_head(view.boat(row.sail)), tag("td", who(view.boat(row.sail)), class_="who"),
                 *map(cell, row.scores[MOST_COLUMNS:])) for row in view.standing.rows]
     heads = [tag("th", text, class_=name) for text, name in
              (("Rank", "rank"), ("Sail", "sail"), (name_heads(view), "who"))]

@@ -60,6 +60,11 @@ def code(word: str) -> Markup:
     return tag("abbr", word, class_=kind or None, title=meaning)
 
 
+def sail_head(boat: Boat) -> Markup:
+    """A boat's sail at the head of a row, in which something else comes next."""
+    return tag("th", boat.sail, COMMA, scope="row", class_="sail")
+
+
 def who(boat: Boat) -> Markup:
     first, *rest = [text for text in (boat.helm, boat.name, boat.club) if text] or [""]
     return together(tag("b", first), " ", tag("span", " · ".join(rest))) if rest else tag("b", first)

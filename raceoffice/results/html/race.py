@@ -7,7 +7,7 @@ from raceoffice.decisions.points import words_of
 from raceoffice.program.codes import CODES
 from raceoffice.program.journal import Race
 from raceoffice.results.html.markup import NOTHING, Markup, separated, tag, together
-from raceoffice.results.html.page import bar, code, finding, foot, head, key, name_heads, points, who, whole
+from raceoffice.results.html.page import bar, code, finding, foot, head, key, name_heads, points, sail_head, who, whole
 from raceoffice.results.html.sealing import block
 from raceoffice.results.snapshot import Snapshot
 from raceoffice.wording import duration
@@ -31,7 +31,7 @@ def remarks(view: Snapshot, race: Race, sail: str) -> Markup:
 
 def row(view: Snapshot, race: Race, sail: str, first: Markup, with_time: bool) -> Markup:
     scores, boat = view.scores(race.number), view.boat(sail)
-    cells = [tag("td", first, class_="place"), tag("th", boat.sail, scope="row", class_="sail"),
+    cells = [tag("td", first, class_="place"), sail_head(boat),
              tag("td", who(boat), " ", remarks(view, race, sail), class_="who")]
     below = NOTHING
     if with_time:
