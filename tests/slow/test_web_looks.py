@@ -363,7 +363,7 @@ OF_REMARKS: dict[str, RemarkValue] = {
     "boat": "GBR 101 Ann", "time": "13:00", "times": 4,
     "minutes": "10", "seconds": "60", "copy": "kept/2026-11-28-120000Z.txt",
     "boats": "300 boats", "entries": "8192 entries", "rules": "RRS A5.2", "since": "13:00", "process": "12345", "path": "/media/ann",
-    "held": 12, "others": "101?", "numbers": "12\u201314", "had": 12, "more": 2, "entry": 12,
+    "held": 12, "kept": 110, "others": "101?", "numbers": "12\u201314", "had": 12, "more": 2, "entry": 12,
     "places": ["?1 in race 3", "?1 in race 4"], "was": "15:07:31", "address": "http://10.0.0.5:8080/",
     "rule": "A8.1", "zone": "Europe/Lisbon", "roundings": ["half-up", "down"]}
 PLACED: dict[str, RemarkValue] = {"name": "series.ini", "line": 12}
