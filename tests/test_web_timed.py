@@ -300,6 +300,18 @@ class Timed(Prepared):
     def times_sheet(self, scorer: Device) -> Any:
         return scorer.ask("GET", "/office/scorer/sheet/cup/1")[1]
 
+    def test_cells_that_cannot_be_read(self) -> None:
+        """What stands beside a code is read by nobody, and a time that can't be read is a fault of the sheet: the state comes all
+        the same, without a time of theirs."""
+        scorer, odd = self.device("scorer"), [("-,RET", False), ("15.06,RET", False), ("?,", True)]
+        for race, (cells, _) in enumerate(odd, 1):
+            self.write(f"Sail,Start,Finish,Code\nGBR 101,14:00:00,15:00:00,\nGBR 7,14:00:00,{cells}\n", "cup", "times", f"race-{race}.csv")
+        races = scorer.state()["races"]
+        for race, (cells, is_wrong) in enumerate(odd, 1):
+            sheet = races[str(race)]["sheet"]
+            self.assertEqual((sheet["rows"]["GBR101"]["crossed"], bool(sheet["wrong"])), (54000, is_wrong), cells)
+            self.assertEqual([sheet["rows"]["GBR7"][key] for key in ("crossed", "elapsed")], [None, None], cells)
+
     def test_night(self) -> None:
         """A race past midnight, and an elapsed time instead of a finish: from 23:00 to 0:10 are 4,200 s x 1.000, and 1:05:00
         are 3,900 s x 0.900. The other settings of the sheets stay, and the rounding is shown."""

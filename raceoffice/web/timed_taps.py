@@ -322,9 +322,14 @@ def nights_of(folder: Folder) -> tuple[int, ...]:
 
 
 def row_shown(row: Entry, is_overnight: bool, start: str = "") -> Values:
-    """A row of a race whose first start is this."""
-    return {"finish": row.cells["finish"], "code": row.code, "elapsed": None if row.code else elapsed(row, is_overnight),
-            "crossed": crossed(row, is_overnight, start)}
+    """A row of a race whose first start is this. What can't be read in it is no time; that of a row without a code is a fault
+    of the sheet."""
+    took = at = None
+    with contextlib.suppress(ValueError):
+        at = crossed(row, is_overnight, start)
+    with contextlib.suppress(ValueError):
+        took = None if row.code else elapsed(row, is_overnight)
+    return {"finish": row.cells["finish"], "code": row.code, "elapsed": took, "crossed": at}
 
 
 def crossed(row: Entry, is_overnight: bool, start: str) -> int | None:
@@ -349,5 +354,5 @@ def elapsed(row: Entry, is_overnight: bool) -> int | None:
 
 
 def seconds_of(time: str) -> int:
-    """The seconds of a text as 1:02:31, 62:31 or 3751."""
+    """The seconds of a text as 1:02:31, 62:31 or 3751; a ValueError for any other."""
     return functools.reduce(lambda total, part: total * 60 + int(part), time.split(":"), 0)

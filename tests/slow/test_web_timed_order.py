@@ -66,6 +66,22 @@ class Order(TimedTrial):
         self.assertIn("1 to come", ann.text("#races").replace("\xa0", " "))
         self.need_no_faults()
 
+    def test_a_finish_without_a_moment(self) -> None:
+        """A finish that the scorer types moves no place that a phone keeps: it stays ahead of who came later."""
+        ann, sue = self.started(), self.device("scorer", "Sue")
+        ann.click("#unread")
+        ann.until("document.querySelectorAll('#list li.unread').length === 1")
+        second = ann.run("new Date().getSeconds()")
+        ann.until(f"new Date().getSeconds() !== {second}")
+        ann.tap("GBR101")
+        self.settle(ann)
+        for time, shown in (("23:59:58", ["?1", "GBR 101", "GBR 7"]), ("00:00:01", ["NED 12", "?1", "GBR 101", "GBR 7"])):
+            sue.type("#typed", f"finish 1 {'7' if len(shown) == 3 else '12'} {time}")
+            sue.press("Send")
+            ann.until(f"document.querySelectorAll('#list li').length === {len(shown)}")
+            self.assertEqual(self.shown(ann)[-3:], shown[-3:])
+        self.need_no_faults()
+
     def test_nobody_was_there(self) -> None:
         """Undo brings back the moment of which somebody has said that nobody was there, and touches no other tap."""
         ann, unread = self.started(), "document.querySelectorAll('#list li.unread').length"

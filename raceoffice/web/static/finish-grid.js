@@ -74,7 +74,7 @@ export function drawGrid() {
   fill(grid, boats.length ? boats.map(boatButton) : element("p", {}, noBoats(all)));
   byId("digits").hidden = !page.digits;
   fill(byId("digits"), element("span", {}, page.digits), element("small", {}, text("common.boats", {n: boats.length})));
-  noteTop(Math.round(grid.getBoundingClientRect().top));
+  noteTop(Math.round(grid.getBoundingClientRect().top + scrollY));
 }
 
 // What comes and goes above the boats moves all of them.
@@ -125,7 +125,8 @@ function boatButton(boat) {
 function lowerLine(boat, isMarked, isRounding) {
   if (isRounding && isMarked) return ordinal(boat.rounded + 1);
   if (boat.code) return boat.code;
-  return isMarked ? ordinal(placeOf(boat.race, boat.sail)) : boat.name || boat.helm || " ";
+  const place = isMarked && placeOf(boat.race, boat.sail);
+  return place ? ordinal(place) : boat.name || boat.helm || " ";
 }
 
 function press(boat) {

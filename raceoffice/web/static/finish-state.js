@@ -75,7 +75,9 @@ export function raceNow(name) {
   const race = page.states[name]?.races?.[number];
   const found = withTaps(isTimed(name) ? atTheLine(race) : race, items, stateOf);
   for (const one of momentsOf(name).filter(one => !one.by)) {
-    found.unread.push({...one, after: found.order.filter(([sail]) => (found.at[sail] ?? 0) <= one.at).length});
+    // A finish that was typed has no moment.
+    const next = found.order.findIndex(([sail]) => found.at[sail] > one.at);
+    found.unread.push({...one, after: next < 0 ? found.order.length : next});
   }
   return found;
 }

@@ -52,6 +52,7 @@ function drawBanner() {
   byId("banner").classList.toggle("code", kind === "code");
   fill(byId("banner"), words ? [element("span", {}, words()),
     element("button", {type: "button", onclick: () => setMode({kind: "finish"})}, text(kind === "round" ? "finish.done" : "common.cancel"))] : []);
+  byId("list").style.setProperty("--banner", `${byId("banner").offsetHeight}px`);
 }
 
 // Which race of a class is recorded here
