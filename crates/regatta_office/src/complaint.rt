@@ -7,7 +7,7 @@ use crate::run::RunFault;
 use crate::scribe::ScribeFault;
 use regatta_arguments::Stop;
 use regatta_desk::OpenFault;
-use regatta_keep::{Cause, OpenFault as KeepOpenFault, RecoverFault};
+use regatta_keep::{Cause, Log, OpenFault as KeepOpenFault, RecoverFault, Unopened};
 use regatta_keeper::KeeperFault;
 use regatta_service::{DoorFault, ServeFault};
 use regatta_tables::{EntriesFault, JournalFault};
@@ -214,6 +214,13 @@ impl From<RecoverFault> for Complaint {
             RecoverFault::Damaged(line) => Complaint::KeepDamaged { line },
             RecoverFault::Journal(fault) => kept_journal(fault),
         }
+    }
+}
+
+/// The complaint about a kept file that isn't opened. The file is closed.
+impl<L: Log + Drop> From<Unopened<L>> for Complaint {
+    fn from(unopened: Unopened<L>) -> Complaint {
+        Complaint::from(unopened.fault)
     }
 }
 
