@@ -87,7 +87,7 @@ NO_RULES = {
 REFUSED = [
     "", "serve", "serve --socket s --clients 0", "serve --socket s --clients 17",
     "serve --socket s --sessions 1000001", "serve --socket s --print csv", "replay --socket s", "Replay",
-    "replay replay", "words words", "words --scp 3", "replay --print pdf", "replay --scp",
+    "replay replay", "words words", "words --scp 3", "explain --print csv", "replay --print pdf", "replay --scp",
     "replay --scp 3 --scp 3", "replay --speed",
 ]
 # Arguments that ask for help, and what it names.
@@ -100,6 +100,7 @@ HELP = {
         "FINISH 1 GBR7", "SHOW", "regatta serve --socket race.sock", "nc -U race.sock",
         "regatta replay --print journal", "--clients", "BUSY", "--sessions", "--entries", "--handicap"],
     "words --help": ["JSON", "regatta words > words.json"],
+    "explain --help": ["JSON", "regatta explain --journal", "--entries", "--exclude", "--handicap"],
 }
 # The text of a journal file and of an entry list; what a run of the line `ENTER C` then prints, and what
 # it says. Rules, journal file, entry list and start are checked in this order.
@@ -388,7 +389,7 @@ class Devices(unittest.TestCase):
 
     def test_output(self) -> None:
         """What fits is printed, also of help."""
-        for words, start in [(["replay"], "OK 1 1 0.0"), (["words"], '{"codes":['), (["--help"], "")]:
+        for words, start in [(["replay"], "OK 1 1 0.0"), (["words"], '{"codes":['), (["explain"], '{"rules":{'), (["--help"], "")]:
             with tempfile.TemporaryFile() as printed:
                 _, said, status = ran(*words, lines=RACE, stdout=printed, preexec_fn=ten_bytes,
                                       restore_signals=False)

@@ -34,15 +34,15 @@ use Rattle.regatta_board.proofs.Numbers.{filter_known, all_races, map_over}
 -- ---- one race
 
 module _ (rules : RulesParts) (journal : Journal) (orderly : IsOrderly rules journal) where
-  boats_numbered : (race : ℕ) → range_with_len 0 (boats (sheet_of rules journal race))
+  pub boats_numbered : (race : ℕ) → range_with_len 0 (boats (sheet_of rules journal race))
       ≡ map (number journal) (entered journal)
   boats_numbered race = ap (range_with_len 0) (length-map (entered journal) (held journal race))
       ∙ numbers_are (entered journal) orderly.apart
 
-  known_all : AllByRecursion (λ boat. is_entered journal boat ≡ true) (entered journal)
+  pub known_all : AllByRecursion (λ boat. is_entered journal boat ≡ true) (entered journal)
   known_all = all_in (entered journal) (entered journal) (λ x h. h)
 
-  renamed : (race : ℕ)
+  pub renamed : (race : ℕ)
       → IsRenamed same_sail nat_eq (λ boat. is_entered journal boat ≡ true) (number journal)
       (journal_race rules journal race)
       (race_of (sheet_of rules journal race).order (sheet_of rules journal race).held)

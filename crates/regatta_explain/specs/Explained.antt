@@ -1,9 +1,8 @@
 -- The document: the standing of a journal explained, in the words of the model.
 use Rattle.std.specs.Prelude.{ℕ, Bool, not, nat_eq, ◌||◌, List, length, map, filter, drop}
-use Rattle.std.specs.Prelude.{zip, sum_by, Option, Some, None, is_some}
+use Rattle.std.specs.Prelude.{zip, sum_by, is_some}
 use Rattle.std.specs.List.{enumerate_from, list_any, range_with_len}
 use Rattle.regatta_terms.specs.Rules.{RulesParts}
-use Rattle.regatta_terms.specs.declared.command.Code.{Code}
 use Rattle.regatta_terms.specs.declared.limits.TheConstants.{MAX_RACES}
 use Rattle.regatta_terms.specs.declared.sail.Sail.{Sail}
 use Rattle.regatta_scores.specs.declared.boats.RaceScore.{RaceScore}
@@ -13,7 +12,7 @@ use Rattle.regatta_scores.specs.Journal.{Journal, same_sail, entered, scored, is
 use Rattle.regatta_scores.specs.Journal.{time, holds_nothing}
 use Rattle.regatta_scores.specs.Order.{is_empty}
 use Rattle.regatta_scores.specs.Outcomes.{scores, redress_by}
-use Rattle.regatta_scores.specs.RacePoints.{Race, Status, Finished, Coded, journal_race, status, came, dnf}
+use Rattle.regatta_scores.specs.RacePoints.{Race, journal_race, status, came, dnf}
 use Rattle.regatta_scores.specs.RacePoints.{penalty_points, plain}
 use Rattle.regatta_scores.specs.Standing.{line, standing}
 use Rattle.regatta_explain.specs.declared.parts.BoatRows.{BoatRows}
@@ -30,14 +29,10 @@ use Rattle.regatta_explain.specs.declared.parts.NeighbourPart.{NeighbourPart}
 use Rattle.regatta_explain.specs.declared.parts.RankPart.{RankPart}
 use Rattle.regatta_explain.specs.Averaged.{counted, counted_races, counted_sum}
 use Rattle.regatta_explain.specs.Depends.{up_to, last_that_matters}
-use Rattle.regatta_explain.specs.Races.{PlacedGroup, placed_groups, twenty_percent_of, number_came, base}
+use Rattle.regatta_explain.specs.Races.{PlacedGroup, placed_groups, twenty_percent_of, number_came}
+use Rattle.regatta_explain.specs.Races.{base, status_code}
 use Rattle.regatta_explain.specs.Documents.{document_text}
 use Rattle.regatta_explain.specs.Separations.{separation}
-
--- the code by which a boat of this status is scored, if she didn't finish
-abbrev pub status_code : Status → Option Code
-status_code Finished = None
-status_code (Coded code) = Some code
 
 -- the rules, as the document has them
 abbrev pub rules_part : RulesParts → RulesPart
@@ -79,13 +74,13 @@ module _ (rules : RulesParts) (journal : Journal) where
   race_in = journal_race rules journal
 
   -- whether the race counts, has an order, or a boat has a time or holds something in it
-  abbrev pub is_recorded : ℕ → Bool
+  unfoldable pub is_recorded : ℕ → Bool
   is_recorded race = is_scored journal race || not (is_empty (order rules journal race))
       || list_any (λ boat. is_some (time journal race boat) || not (holds_nothing (held journal race boat)))
       (entered journal)
 
   -- what it is scored by
-  abbrev pub race_part : ℕ → RacePart
+  unfoldable pub race_part : ℕ → RacePart
   race_part race = record {
     race = race;
     counts = is_scored journal race;
@@ -96,7 +91,7 @@ module _ (rules : RulesParts) (journal : Journal) where
   }
 
   -- what a boat has in it
-  abbrev pub held_part : ℕ → Sail → HeldPart
+  unfoldable pub held_part : ℕ → Sail → HeldPart
   held_part race boat = record {
     sail = boat;
     status = status_code (status same_sail (race_in race) boat);
@@ -109,7 +104,7 @@ module _ (rules : RulesParts) (journal : Journal) where
   }
 
   -- the race: what it is scored by, its groups, and its boats in order of entry
-  abbrev pub race_rows : ℕ → RaceRows
+  unfoldable pub race_rows : ℕ → RaceRows
   race_rows race = record {
     race = race_part race;
     groups = map group_part (placed_groups (race_in race));
@@ -128,7 +123,7 @@ module _ (rules : RulesParts) (journal : Journal) where
       counted (numbered_scores boat) i (redress_by 0 (held journal race boat).redress).1
 
   -- her score in race i of those that count, with her cell there
-  abbrev pub score_part : Sail → ℕ → ℕ → Cell → ScorePart
+  unfoldable pub score_part : Sail → ℕ → ℕ → Cell → ScorePart
   score_part boat i race cell = record {
     race = race;
     status = status_code (status same_sail (race_in race) boat);
@@ -144,19 +139,19 @@ module _ (rules : RulesParts) (journal : Journal) where
   }
 
   -- her scores in the races that count, by her row of the table
-  abbrev pub score_parts : Row → List ScorePart
+  unfoldable pub score_parts : Row → List ScorePart
   score_parts row =
       map (λ score. score_part row.sail score.0 score.1.0 score.1.1)
       (enumerate_from 0 (zip (scored journal) row.cells))
 
   -- her place, and her score in each race that counts
-  abbrev pub boat_rows : Row → BoatRows
+  unfoldable pub boat_rows : Row → BoatRows
   boat_rows row = record { boat = boat_part row; scores = score_parts row }
 
   -- ---- ties, and ranks after each race
 
   -- what separates two neighbours
-  abbrev pub neighbour_part : Row × Row → NeighbourPart
+  unfoldable pub neighbour_part : Row × Row → NeighbourPart
   neighbour_part pair = record {
     first = pair.0.sail;
     second = pair.1.sail;
@@ -164,7 +159,7 @@ module _ (rules : RulesParts) (journal : Journal) where
   }
 
   -- the ranks after a race that counts: those of the standing without later races
-  abbrev pub ranks_after : ℕ → RanksAfter
+  unfoldable pub ranks_after : ℕ → RanksAfter
   ranks_after race = record {
     race = race;
     ranks = map rank_part (standing rules (up_to journal race)).rows;

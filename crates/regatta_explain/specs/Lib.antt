@@ -2,6 +2,7 @@ pub mod Averaged
 pub mod Depends
 pub mod Documents
 pub mod Explained
+pub mod Made
 pub mod Races
 pub mod Rows
 pub mod Separations

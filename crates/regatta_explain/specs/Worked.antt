@@ -6,7 +6,9 @@ use Rattle.regatta_terms.specs.declared.command.Command.TheVariants.{Enter, Fini
 use Rattle.regatta_scores.specs.Journal.{Journal}
 use Rattle.regatta_scores.specs.WorkedStandings.{a, b, c, default_rules, journal, scorer}
 use Rattle.regatta_json.specs.Rows.{joined}
-use Rattle.regatta_explain.specs.Explained.{document, explained}
+use Rattle.regatta_explain.specs.Explained.{document, explained, held_part, is_recorded, neighbour_part}
+use Rattle.regatta_explain.specs.Explained.{boat_rows as boat_rows_of, race_part, race_rows as race_rows_of}
+use Rattle.regatta_explain.specs.Explained.{ranks_after, score_part, score_parts}
 use Rattle.regatta_explain.specs.Documents.{document_text, head_text, races_text, boats_text}
 use Rattle.regatta_explain.specs.Documents.{neighbours_text, after_text, race_rows, race_groups, race_boats}
 use Rattle.regatta_explain.specs.Documents.{boat_rows, after_row}
@@ -92,7 +94,8 @@ explained_by_hand = joined (
     ∷ [])
 
 pub explains_two_races : explained default_rules two_races ≡ explained_by_hand
-unfolding digits two_races explained_by_hand document document_text head_text races_text boats_text neighbours_text
+unfolding digits two_races explained_by_hand document is_recorded race_part held_part race_rows_of score_part
+    score_parts boat_rows_of neighbour_part ranks_after document_text head_text races_text boats_text neighbours_text
     after_text race_rows race_groups race_boats boat_rows after_row quoted code_value mark_value number_value
     given_value redress_value rules_text group_text status_text penalties_text redress_text held_text
     race_head race_scores_text race_text base_text average_text points_part score_text boat_text

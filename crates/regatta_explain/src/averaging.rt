@@ -9,7 +9,7 @@ use regatta_terms::RaceNo;
 use std::alloc::{AllocError, Global};
 
 /// Whether no average replaces her points.
-fn is_own(score: &RaceScore) -> bool
+pub(crate) fn is_own(score: &RaceScore) -> bool
     ensures { result ≡ is_own_by score.now.averaged }
 {
     matches!(score.averaged, Averaged::OverNone)

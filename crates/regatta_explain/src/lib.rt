@@ -4,16 +4,22 @@
 //! A document is one JSON object. It has sails, numbers and fixed words alone.
 #![tactic(auto)]
 
+mod after_parts;
 mod averaging;
+mod boat_parts;
 mod boats;
 mod documents;
 mod fields;
 mod makers;
+mod neighbour_parts;
 mod parts;
+mod race_parts;
 mod races;
 mod separations;
 mod series;
+mod sums;
 mod ties;
+mod whole;
 
 pub use averaging::averaged_races;
 pub use documents::write_document;
@@ -23,3 +29,4 @@ pub use parts::{
     RankPart, RanksAfter, RulesPart, ScorePart, Separation,
 };
 pub use separations::{first_difference, last_difference, separation_of};
+pub use whole::{document_of, write_explained};

@@ -17,7 +17,7 @@ mod store;
 
 pub use covered::{Covered, cover_all};
 pub use covers::{Covers, KeptBy, Uncovered};
-pub use keeper::{CoverFault, Keeper, KeeperFault};
+pub use keeper::{CoverFault, Keeper, KeeperFault, Unkept};
 pub use kept::{Book, Kept, KeptName};
 pub use mark::Mark;
 pub use need::{Need, NotKept};

@@ -11,10 +11,10 @@ use Rattle.clap.specs.declared.parser.matches.SubCommand.{SubCommand}
 use Rattle.clap.proofs.OnLiterals.{clap_on_literals}
 use Rattle.clap.proofs.WalkLemmas.{first_value-rows}
 use Rattle.regatta_arguments.proofs.Asking.{subcommand_is}
-use Rattle.regatta_office.specs.Asked.{ReplayAsked, ServingAsked}
-use Rattle.regatta_office.specs.declared.options.Asked.TheVariants.{Replay, Serve, Words}
-use Rattle.regatta_office.specs.Words.{asked_by, regatta, replay_with, serving_with, with_rules}
-use Rattle.regatta_office.specs.Words.{with_seats, with_start}
+use Rattle.regatta_office.specs.Asked.{ReplayAsked, Series, ServingAsked}
+use Rattle.regatta_office.specs.declared.options.Asked.TheVariants.{Replay, Serve, Words, Explain}
+use Rattle.regatta_office.specs.Words.{asked_by, regatta, replay_with, series_with, serving_with}
+use Rattle.regatta_office.specs.Words.{with_rules, with_seats, with_start}
 
 -- what the options of `replay` ask for
 pub replay_is : {Z : Type 0} (met : Option (Box SubCommand Z)) (f : Found) (asked : ReplayAsked)
@@ -42,6 +42,16 @@ pub words_is : {Z : Type 0} (met : Option (Box SubCommand Z)) (f : Found)
     → Some (rows_of f) ≡ option_map (λ p. p.1) (subcommand_rows met)
     → asked_by (subcommand_rows met) ≡ Some Words
 words_is met f named found = ap asked_by (subcommand_is met _ _ named found)
+
+-- what the options of `explain` ask for
+pub explain_is : {Z : Type 0} (met : Option (Box SubCommand Z)) (f : Found) (series : Series)
+    → Some (codes "explain") ≡ option_map (λ b. (out-SubCommand (box_value b)).name.now) met
+    → Some (rows_of f) ≡ option_map (λ p. p.1) (subcommand_rows met)
+    → Some series ≡ series_with (first_value f)
+    → asked_by (subcommand_rows met) ≡ Some (Explain series)
+explain_is met f series named found is = ap asked_by (subcommand_is met _ _ named found)
+    ∙ (λ i. option_map Explain (series_with (λ option. sym (first_value-rows f option) i)))
+    ∙ ap (option_map Explain) (sym is)
 
 -- the program is of the kind whose matches `clap` specifies
 pub simple : (forms : ValueParser) → is_simple (regatta forms) ≡ true

@@ -10,6 +10,7 @@ use Rattle.regatta_scores.specs.AppendixA.{IsAppendixA}
 use Rattle.regatta_scores.specs.Journal.{Journal}
 use Rattle.regatta_scores.specs.Standing.{standing}
 use Rattle.regatta_board.specs.Refusals.{limits, is_lawful}
+use Rattle.regatta_explain.specs.Explained.{explained}
 use Rattle.regatta_tables.specs.EntryLists.{entries_of_text}
 use Rattle.regatta_tables.specs.JournalFiles.{journal_of}
 use Rattle.regatta_tables.specs.TableTexts.{table_text}
@@ -109,6 +110,24 @@ pub record IsReplayOf (asked : ReplayAsked) (given old new : Option (List ℕ)) 
   pub lawful : is_lawful limits rules start ≡ true
   pub appendix_a : IfSome given (λ text. WritesRun rules start asked.form text old new)
   pub wrote : IfSome given (λ text. Appends old new (run_text rules start asked.form text))
+
+-- nothing of a text was written, or all of it, or a beginning
+abbrev pub WritesAtMost : List ℕ → Option (List ℕ) → Option (List ℕ) → Type 0
+WritesAtMost text old new = Keeps old new ⊎ (Appends old new text ⊎ AppendsPrefix old new text)
+
+-- the document of the journal that the series starts with was written, under its rules
+pub record IsExplainOf (series : Series) (old new : Option (List ℕ)) : Type 0 where
+  pub rules : RulesParts
+  pub start : Journal
+  pub begins : Begins series rules start
+  pub lawful : is_lawful limits rules start ≡ true
+  pub wrote : Appends old new (explained rules start)
+
+-- nothing was written, or all of such a document, or a beginning of it
+abbrev pub AtMostExplainOf : Series → Option (List ℕ) → Option (List ℕ) → Type 0
+AtMostExplainOf series old new =
+    Keeps old new ⊎ ((rules : RulesParts) × (start : Journal) × Begins series rules start
+    × WritesAtMost (explained rules start) old new)
 
 -- the table of a lawful journal that begins with the start was written: the one that fits Appendix A
 -- for it

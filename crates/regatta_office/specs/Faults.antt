@@ -26,6 +26,12 @@ abbrev pub failed_writes_in : {A : Type 0} → Result A ScribeFault → ℕ
 failed_writes_in (Ok done) = 0
 failed_writes_in (Err fault) = writes_failed_by fault
 
+-- the same for a run that ends with one write
+abbrev pub failed_writes_of : {A : Type 0} → Result A RunFault → ℕ
+failed_writes_of (Ok done) = 0
+failed_writes_of (Err Write) = 1
+failed_writes_of (Err _) = 0
+
 -- a fault of a run, with the failures of the reader and the writer, before and after: a failed
 -- device is reported as its own fault and as nothing else
 abbrev pub IsRunFaultOf : ℕ → ℕ → ℕ → ℕ → RunFault → Type 0

@@ -1,14 +1,14 @@
 -- A run that does what the words ask for.
-use Rattle.std.specs.Prelude.{◌≡◌, ◌⊎◌, ℕ, List, Option}
-use Rattle.std.specs.Io.KnownBytes.{Appends, Keeps}
-use Rattle.regatta_streams.specs.Texts.{AppendsPrefix}
+use Rattle.std.specs.Prelude.{◌≡◌, ℕ, List, Option}
+use Rattle.std.specs.Io.KnownBytes.{Appends}
 use Rattle.regatta_words.specs.WordsText.{words_text}
-use Rattle.regatta_office.specs.Asked.{AtMostServingOf, IsReplayOf, IsServingOf}
+use Rattle.regatta_office.specs.Asked.{AtMostExplainOf, AtMostServingOf, IsExplainOf, IsReplayOf}
+use Rattle.regatta_office.specs.Asked.{IsServingOf, WritesAtMost}
 use Rattle.regatta_office.specs.declared.options.Asked.{Asked}
-use Rattle.regatta_office.specs.declared.options.Asked.TheVariants.{Replay, Serve, Words}
+use Rattle.regatta_office.specs.declared.options.Asked.TheVariants.{Replay, Serve, Words, Explain}
 
--- a whole run: a replay of what the input gives; or a serving, or the vocabulary, which leave the
--- input alone
+-- a whole run: a replay of what the input gives; or a serving, the vocabulary, or a standing
+-- explained, which leave the input alone
 abbrev pub IsRunOf : {R : Type 0} → (R → Option (List ℕ)) → Asked → R → R → Option (List ℕ)
     → Option (List ℕ) → Type 0
 IsRunOf remaining (Replay asked) before after old new =
@@ -16,14 +16,13 @@ IsRunOf remaining (Replay asked) before after old new =
 IsRunOf remaining (Serve asked) before after old new =
     (after ≡ before) × IsServingOf asked old new
 IsRunOf remaining Words before after old new = (after ≡ before) × Appends old new words_text
+IsRunOf remaining (Explain series) before after old new =
+    (after ≡ before) × IsExplainOf series old new
 
--- nothing of a text was written, or all of it, or a beginning
-abbrev pub WritesAtMost : List ℕ → Option (List ℕ) → Option (List ℕ) → Type 0
-WritesAtMost text old new = Keeps old new ⊎ (Appends old new text ⊎ AppendsPrefix old new text)
-
--- the most that a run has written, however it ended: a serving at most its table, and `words` the
--- vocabulary; the contract of `replay` says what a replay has written
+-- the most that a run has written, however it ended: a serving at most its table, `words` the
+-- vocabulary, and `explain` a document; the contract of `replay` says what a replay has written
 abbrev pub AtMostRunOf : Asked → Option (List ℕ) → Option (List ℕ) → Type 0
 AtMostRunOf (Replay asked) old new = Unit {0}
 AtMostRunOf (Serve asked) old new = AtMostServingOf asked old new
 AtMostRunOf Words old new = WritesAtMost words_text old new
+AtMostRunOf (Explain series) old new = AtMostExplainOf series old new

@@ -13,7 +13,7 @@ use Rattle.regatta_arguments.specs.Options.{bare_program, flag, is_given, option
 use Rattle.regatta_arguments.specs.Options.{required}
 use Rattle.regatta_office.specs.Asked.{ReplayAsked, Series, ServingAsked}
 use Rattle.regatta_office.specs.declared.options.Asked.{Asked}
-use Rattle.regatta_office.specs.declared.options.Asked.TheVariants.{Replay, Serve, Words}
+use Rattle.regatta_office.specs.declared.options.Asked.TheVariants.{Replay, Serve, Words, Explain}
 use Rattle.regatta_office.specs.declared.options.TheConstants.{MOST_SESSIONS}
 use Rattle.regatta_office.specs.declared.form.Form.{Form}
 use Rattle.regatta_office.specs.declared.form.Form.TheVariants.{Table, Csv, Journal}
@@ -68,10 +68,16 @@ serve = with_rule (with_seats (with_start (with_rules (new_app (codes "serve")))
 abbrev pub words : App
 words = new_app (codes "words")
 
--- the whole program: with its three subcommands
+-- the subcommand `explain`: the options of the series and of its start
+abbrev pub explain : App
+explain = with_start (with_rules (new_app (codes "explain")))
+
+-- the whole program: with its four subcommands
 unfoldable pub regatta : ValueParser → App
-regatta forms = with_subcommand (with_subcommand (with_subcommand (bare_program (codes "regatta"))
-    (replay forms).top) serve.top) words.top
+regatta forms =
+    with_subcommand
+    (with_subcommand (with_subcommand (with_subcommand (bare_program (codes "regatta"))
+    (replay forms).top) serve.top) words.top) explain.top
 
 -- ---- what words ask for
 
@@ -135,7 +141,8 @@ asked_by (Some (name, rows)) =
     let value = λ (option : Text). first_of option rows in
     if bytes_eq name (codes "replay") then option_map Replay (replay_with value)
     else if bytes_eq name (codes "serve") then option_map Serve (serving_with value)
-    else if bytes_eq name (codes "words") then Some Words else None
+    else if bytes_eq name (codes "words") then Some Words
+    else if bytes_eq name (codes "explain") then option_map Explain (series_with value) else None
 asked_by None = None
 
 -- the run that the options of words ask for

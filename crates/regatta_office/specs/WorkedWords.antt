@@ -14,7 +14,7 @@ use Rattle.regatta_office.specs.Asked.{Series}
 use Rattle.regatta_arguments.specs.Asking.{AskHelp, AskVersion}
 use Rattle.regatta_office.specs.Words.{asked_of, regatta, with_rules, with_seats, with_start}
 use Rattle.regatta_office.specs.declared.options.Asked.{Asked}
-use Rattle.regatta_office.specs.declared.options.Asked.TheVariants.{Replay, Serve, Words}
+use Rattle.regatta_office.specs.declared.options.Asked.TheVariants.{Replay, Serve, Words, Explain}
 
 -- the series by default: A5.2, 20% for a Scoring Penalty, one score excluded from two races on,
 -- places by the finishing order, and no start file
@@ -73,7 +73,12 @@ pub runs : (forms : ValueParser) → Gives (asked_of forms)
       Some (serving (record default { handicap = true }) 4 0),
     )
     -- the vocabulary
-    ∷ (codes "words" ∷ [], Some Words) ∷ [])
+    ∷ (codes "words" ∷ [], Some Words)
+    -- the standing of a journal explained
+    ∷ (
+      codes "explain" ∷ codes "--journal" ∷ codes "j" ∷ codes "--scp=3" ∷ [],
+      Some (Explain (record default { scp = Some (codes "3"); journal = Some (codes "j") })),
+    ) ∷ [])
 unfolding clap_on_literals regatta with_rules with_start with_seats
 runs forms = refl
 
@@ -96,7 +101,8 @@ pub faults : (forms : ValueParser) → Gives (fault_of (regatta forms))
     ∷ (codes "replay" ∷ codes "--handicap=yes" ∷ [], TooManyValues ∷ [])
     ∷ (codes "serve" ∷ [], MissingRequiredArgument ∷ [])
     ∷ (codes "serve" ∷ codes "--socket=s" ∷ codes "--clients=17" ∷ [], ValueValidation ∷ [])
-    ∷ (codes "words" ∷ codes "--scp=3" ∷ [], UnknownArgument ∷ []) ∷ [])
+    ∷ (codes "words" ∷ codes "--scp=3" ∷ [], UnknownArgument ∷ [])
+    ∷ (codes "explain" ∷ codes "--print=csv" ∷ [], UnknownArgument ∷ []) ∷ [])
 unfolding clap_on_literals regatta with_rules with_start with_seats
 faults forms = refl
 

@@ -9,6 +9,7 @@ ghost use Rattle.regatta_office.specs.Words.{TakesForms, asked_by, regatta};
 
 use crate::clients::serve_series;
 use crate::complaint::Complaint;
+use crate::explained::explain_series;
 use crate::options::{Asked, ReplayOptions, options_of};
 use crate::run::replay;
 use crate::series::beginning_of;
@@ -65,6 +66,7 @@ where
         Asked::Replay(options) => replay_series(rt, options, input, output),
         Asked::Serve(options) => serve_series(rt, options, output, errors),
         Asked::Words => print_words(rt.alloc(), output),
+        Asked::Explain(series) => explain_series(rt, series, output),
     }
 }
 
@@ -72,7 +74,8 @@ where
 ///
 /// `replay` answers the lines of the input and prints the final table, CSV or journal. `serve`
 /// answers the lines of clients at a new Unix socket, side by side. It prints the final table after
-/// the door has closed. `words` prints the vocabulary.
+/// the door has closed. `words` prints the vocabulary, and `explain` the standing of a journal with
+/// the numbers and rules that lead to it.
 ///
 /// `--absent`, `--scp`, `--exclude` and `--handicap` are the series rules (RRS A5.2 and A5.3,
 /// 44.3(c), A2.1, A3). `--journal` and `--entries` name files to start from. `--print` is the form

@@ -7,8 +7,8 @@ use crate::run::RunFault;
 use crate::scribe::ScribeFault;
 use regatta_arguments::Stop;
 use regatta_desk::OpenFault;
-use regatta_keep::{Cause, OpenFault as KeepOpenFault, RecoverFault};
-use regatta_keeper::KeeperFault;
+use regatta_keep::{Cause, Log, OpenFault as KeepOpenFault, RecoverFault, Unopened};
+use regatta_keeper::{KeeperFault, Unkept};
 use regatta_service::{DoorFault, ServeFault};
 use regatta_tables::{EntriesFault, JournalFault};
 use regatta_terms::RulesFault;
@@ -217,6 +217,13 @@ impl From<RecoverFault> for Complaint {
     }
 }
 
+/// The complaint about a kept file that isn't opened. The file is closed.
+impl<L: Log + Drop> From<Unopened<L>> for Complaint {
+    fn from(unopened: Unopened<L>) -> Complaint {
+        Complaint::from(unopened.fault)
+    }
+}
+
 impl From<KeptStartFault> for Complaint {
     fn from(fault: KeptStartFault) -> Complaint {
         match fault {
@@ -227,10 +234,10 @@ impl From<KeptStartFault> for Complaint {
 }
 
 /// The complaint about a keeper that can't be opened. The start goes on from what is kept, so it keeps
-/// another journal only if somebody has changed the file since it was read.
-impl From<KeeperFault> for Complaint {
-    fn from(fault: KeeperFault) -> Complaint {
-        match fault {
+/// another journal only if somebody has changed the file since it was read. The file is closed.
+impl<L: Log + Drop> From<Unkept<L>> for Complaint {
+    fn from(unkept: Unkept<L>) -> Complaint {
+        match unkept.fault {
             KeeperFault::Other => Complaint::KeepFault(Cause::Other),
             KeeperFault::NoMemory => Complaint::NoMemory,
         }

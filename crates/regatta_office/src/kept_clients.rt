@@ -18,7 +18,7 @@ use crate::stopping_gate::StoppingGate;
 use crate::table_outlet::TableOutlet;
 use regatta_desk::{Note, Office, OfficeName, Opened, Pass};
 use regatta_keep::{Cause, Log, Opened as OpenedLog, open};
-use regatta_keeper::{CoverFault, Covered, Keeper, KeeperFault, Kept, KeptBy, KeptName, cover_all};
+use regatta_keeper::{CoverFault, Covered, Keeper, Kept, KeptBy, KeptName, Unkept, cover_all};
 use regatta_service::{
     Admitted, Door, DoorFault, Gate, ServeFault, SocketDoor, Stopping, serve_kept,
 };
@@ -204,7 +204,7 @@ fn keeper_of<N, L, H, R>(
     office: &Office<N, H>,
     kept: OpenedLog<L>,
     history: History,
-) -> Result<Keeper<N, L>, KeeperFault>
+) -> Result<Keeper<N, L>, Unkept<L>>
 where
     N: KeptName,
     L: Log + Drop,

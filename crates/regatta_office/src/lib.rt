@@ -8,6 +8,7 @@ mod command_line;
 mod complaint;
 mod cut_note;
 mod ends;
+mod explained;
 mod final_part;
 mod form;
 mod kept_clients;
@@ -27,6 +28,7 @@ mod vocabulary;
 
 pub use command_line::program;
 pub use complaint::Complaint;
+pub use explained::explain;
 pub use form::Form;
 pub use regatta_desk::{
     Desk, Next, Office, OfficeName, OpenFault, Opened, Pass, Receipt, Sheet, ShowFault,

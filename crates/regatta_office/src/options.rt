@@ -11,6 +11,7 @@ ghost use Rattle.regatta_office.specs.Words.{form_by, form_option as form_option
 ghost use Rattle.regatta_office.specs.Words.{number_option as number_option_of, replay_with};
 ghost use Rattle.regatta_office.specs.Words.{serve as serve_of, serving_with};
 ghost use Rattle.regatta_office.specs.Words.{with_seats as with_seats_of};
+ghost use Rattle.regatta_office.specs.Words.{explain as explain_of};
 ghost use Rattle.regatta_office.specs.Words.{regatta as regatta_of, replay as replay_of};
 ghost use Rattle.regatta_office.specs.Words.{series_by, series_with};
 ghost use Rattle.regatta_office.specs.Words.{with_rules as with_rules_of, words as words_of};
@@ -108,6 +109,8 @@ pub(crate) enum Asked<'a> {
     Serve(ServeOptions<'a>),
     /// To print the vocabulary.
     Words,
+    /// To print the standing explained.
+    Explain(SeriesOptions<'a>),
 }
 
 /// What the help says of the program.
@@ -130,6 +133,13 @@ static WORDS: &str =
     "Prints the vocabulary as JSON: codes and penalties with their meanings, roles and the lines \
     that each may send, refusals and faults with numbers and sentences, and the limits. Example: \
     regatta words > words.json";
+
+/// What the help says of `explain`.
+static EXPLAIN: &str =
+    "Prints the standing of a journal explained, as JSON: for each race its places and what it is \
+    scored by, for each boat the steps that lead to her points, which rule separates boats with the \
+    same series score, and the ranks after each race. Example: regatta explain --journal \
+    saturday.txt > saturday.json";
 
 static ABSENT: &str =
     "What boats score that did not start or finish, retired or were disqualified: \
@@ -270,6 +280,16 @@ fn words<'a>(alloc: Global) -> Command<'a>
     Command::new(alloc, "words").about(WORDS)
 }
 
+/// `explain` with its options.
+fn explain<'a>(alloc: Global) -> Result<Command<'a>, AllocError>
+    ensures app { IfOk result (λ c. app_of c ≡ explain_of) }
+    ensures local { IfOk result (λ c. (out-Command c).has_globals ≡ false) }
+{
+    let command = Command::new(alloc, "explain").about(EXPLAIN);
+    let command = with_start(alloc, with_rules(alloc, command)?)?;
+    Ok(command)
+}
+
 /// All that the program understands.
 fn regatta<'a>(alloc: Global) -> Result<Command<'a>, AllocError>
     ensures { IfOk result (λ c. (forms : ValueParser) × TakesForms forms
@@ -279,6 +299,7 @@ fn regatta<'a>(alloc: Global) -> Result<Command<'a>, AllocError>
     let command = command.subcommand(replay(alloc)?)?;
     let command = command.subcommand(serve(alloc)?)?;
     let command = command.subcommand(words(alloc))?;
+    let command = command.subcommand(explain(alloc)?)?;
     Ok(command)
 }
 
@@ -387,8 +408,12 @@ fn run_asked<'a>(matches: &ArgMatches<'a>) -> Option<Asked<'a>>
         let serving = serving_asked(options)?;
         return Some(Asked::Serve(serving));
     }
-    let _options = matches.subcommand_matches("words")?;
-    Some(Asked::Words)
+    if let Some(_options) = matches.subcommand_matches("words") {
+        return Some(Asked::Words);
+    }
+    let options = matches.subcommand_matches("explain")?;
+    let series = series_of(options)?;
+    Some(Asked::Explain(series))
 }
 
 /// What the arguments ask for. `clap` accepts none without a subcommand.

@@ -46,7 +46,7 @@ pub enum RunFault {
     NoMemory,
 }
 
-fn start_fault(fault: ReplayFault) -> RunFault
+pub(crate) fn start_fault(fault: ReplayFault) -> RunFault
     ensures { result ≡ start_fault_of fault }
 {
     match fault {

@@ -3,7 +3,7 @@ ghost use Rattle.std.specs.Prelude.{◌≡◌, ◌+◌, OnOk, IsErrOf};
 ghost use Rattle.std.specs.Io.KnownBytes.{Appends};
 ghost use Rattle.regatta_streams.specs.Texts.{AppendsPrefix};
 ghost use Rattle.regatta_words.specs.WordsText.{words_text};
-ghost use Rattle.regatta_office.specs.Runs.{WritesAtMost};
+ghost use Rattle.regatta_office.specs.Asked.{WritesAtMost};
 
 use crate::complaint::Complaint;
 use regatta_streams::{Sink, write_all};

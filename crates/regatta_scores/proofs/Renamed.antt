@@ -1,15 +1,18 @@
 -- Scores do not depend on the names of the boats.
 use Rattle.std.proofs.Common.{◌≡◌, ◌+◌, Bool, true, false, cond, not, List, []}
 use Rattle.std.proofs.Common.{◌∷◌, refl, ap, ◌∙◌, sym, map, take, length, count_by, sum_by, find}
-use Rattle.std.proofs.Common.{unwrap_or, Some, is_none, ◌-◌, ◌*◌, min, max}
+use Rattle.std.proofs.Common.{ℕ, unwrap_or, Some, is_none, ◌-◌, ◌*◌, min, max}
 use Rattle.std.specs.List.{list_any, before_first, prefix_len, position_or_len, AllByRecursion}
+use Rattle.std.specs.List.{enumerate_from}
 use Rattle.std.proofs.lemmas.List.{length-map, take-map}
 use Rattle.regatta_terms.specs.Rules.{RulesParts}
 use Rattle.regatta_scores.specs.Order.{in_group, stands_in}
 use Rattle.regatta_scores.specs.RacePoints.{Race, status, status_by, came, finishers, dnf}
 use Rattle.regatta_scores.specs.RacePoints.{dnf_by, base_by, plain, penalty_points}
 use Rattle.regatta_scores.specs.RaceLaws.{finishing_place, sharing}
-use Rattle.regatta_scores.specs.Outcomes.{outcome}
+use Rattle.regatta_scores.specs.Details.{PlacedGroup, base, placed_group, placed_groups, race_basis}
+use Rattle.regatta_scores.specs.Details.{scoring, status_code, twenty_percent_of}
+use Rattle.regatta_scores.specs.Outcomes.{outcome, score_of}
 use Rattle.regatta_scores.proofs.Counts.{count_cons, count_by-map, sum_by-map}
 use Rattle.regatta_scores.proofs.TiedTimes.{any_map}
 
@@ -55,6 +58,11 @@ pub record IsRenamed
   pub entry_list : renamed.entered ≡ map name race.entered
   pub finish : renamed.order ≡ map (map name) race.order
   pub holds : (x : B) → renamed.held (name x) ≡ race.held x
+
+-- a group with its boats renamed
+abbrev pub renamed_group : {B C : Type 0} → (B → C) → PlacedGroup B → PlacedGroup C
+renamed_group name group =
+    record { place = group.place; sharing = group.sharing; boats = map name group.boats }
 
 module _ {B C : Type 0} (same_b : B → B → Bool) (same_c : C → C → Bool) (Known : B → Type 0)
     (name : B → C) (race : Race B) (renamed : Race C)
@@ -132,3 +140,56 @@ module _ {B C : Type 0} (same_b : B → B → Bool) (same_c : C → C → Bool) 
     held = r.holds boat i;
     placed = order_same boat known i;
   }
+
+  base_same : (rules : RulesParts) (boat : B) → Known boat →
+      base same_c rules renamed (name boat) ≡ base same_b rules race boat
+  base_same rules boat known i =
+      let points = 10 * place_same boat known i + 5 * (sharing_same boat known i - 1) in
+      base_by (status_same boat known i) points (entered_same i) (dnf_same rules i)
+
+  -- and so is what the race is scored by
+  pub basis_same : (rules : RulesParts) →
+      race_basis same_c rules renamed ≡ race_basis same_b rules race
+  basis_same rules i = record {
+    entered = entered_same i;
+    came = came_same i;
+    dnf = dnf_same rules i;
+    twenty_percent = twenty_percent_of (dnf_same rules i);
+  }
+
+  -- each boat's score in its parts
+  pub scoring_same : (rules : RulesParts) (boat : B) → Known boat →
+      scoring same_c rules renamed (name boat) ≡ scoring same_b rules race boat
+  scoring_same rules boat known i = record {
+    status = status_code (status_same boat known i);
+    came = came (status_same boat known i);
+    held = r.holds boat i;
+    base = base_same rules boat known i;
+    penalty = penalty_points rules (dnf_same rules i) (r.holds boat i);
+    plain = plain_same rules boat known i;
+    score = score_of (outcome_same rules boat known i);
+  }
+
+  group_renamed : (n : ℕ) (group : List B) →
+      placed_group renamed (n, map name group) ≡ renamed_group name (placed_group race (n, group))
+  group_renamed n group i =
+      let ahead : sum_by (finishers renamed) (take n renamed.order)
+      ≡ sum_by (finishers race) (take n race.order) =
+      (λ j. sum_by (finishers renamed) (take n (r.finish j)))
+      ∙ ap (sum_by (finishers renamed)) (take-map (map name) n race.order)
+      ∙ sum_by-map (finishers renamed) (map name) (take n race.order)
+      ∙ (λ j. sum_by (λ g. finishers_same g j) (take n race.order)) in
+      record { place = 1 + ahead i; sharing = finishers_same group i; boats = map name group }
+
+  groups_renamed : (n : ℕ) (groups : List (List B)) →
+      map (placed_group renamed) (enumerate_from n (map (map name) groups))
+      ≡ map (renamed_group name) (map (placed_group race) (enumerate_from n groups))
+  groups_renamed n [] = refl
+  groups_renamed n (group ∷ groups) =
+      λ i. group_renamed n group i ∷ groups_renamed (n + 1) groups i
+
+  -- and the groups with their places
+  pub groups_same : placed_groups renamed ≡ map (renamed_group name) (placed_groups race)
+  groups_same =
+      ap (λ order. map (placed_group renamed) (enumerate_from 0 order)) r.finish
+      ∙ groups_renamed 0 race.order

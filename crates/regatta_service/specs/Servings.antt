@@ -20,16 +20,16 @@ pub record AskedDoor {A D : Type 0} (failures : D → ℕ) (closed : D → Bool)
   pub closed_then : IfBegun result (closed new ≡ true)
   pub unbegun : IsErrOf result ServeFault.NoMemory → new ≡ old
 
--- the seats given come back, each as often as it was given, the lowest first
-pub record SeatsBack (given back : List PassValue) : Type 0 where
-  pub same : IsPermutation (seats_in given) (seats_in back)
-  pub sorted : IsSorted nat_cmp (seats_in back)
+-- these are the seats of the passes given, each as often as it was given, the lowest first
+pub record SeatsBack (given : List PassValue) (seats : List ℕ) : Type 0 where
+  pub same : IsPermutation (seats_in given) seats
+  pub sorted : IsSorted nat_cmp seats
 
 -- clients were served: the seats' passes come back, the door was asked as above, and each client that
 -- it gave was admitted once
 pub record ServesEach {D : Type 0} (failures given : D → ℕ) (closed : D → Bool)
     (passes : List PassValue) (old new : D) (admitted : ℕ) (result : Result (Vec PassValue) ServeFault)
     : Type 0 where
-  pub seats : IfOk result (λ back. SeatsBack passes back.items)
+  pub seats : IfOk result (λ back. SeatsBack passes (seats_in back.items))
   pub door : AskedDoor failures closed old new result
   pub each : given new ≡ given old + admitted

@@ -1,9 +1,7 @@
 //! Clients served side by side.
 ghost use Rattle.std.specs.Prelude.{◌≡◌, ◌+◌, map, true, IfErr, IfOk, IsErrOf, IsTrue};
-ghost use Rattle.std.specs.List.Sorted.{IsPermutation, IsSorted};
-ghost use Rattle.std.specs.Ordering.{nat_cmp};
 ghost use Rattle.regatta_service.specs.Faults.{EndsAdmission, IfBegun, door_failures_in};
-ghost use Rattle.regatta_service.specs.Servings.{AskedDoor, SeatsBack, ServesEach};
+ghost use Rattle.regatta_service.specs.Servings.{AskedDoor, SeatsBack, ServesEach, seats_in};
 
 use crate::door::Door;
 use crate::gate::Gate;
@@ -97,9 +95,7 @@ fn take_back<T>(x: &mut T)
 
 /// The seats of these passes, the lowest first.
 fn seats_of<N: OfficeName>(alloc: Global, passes: &[Pass<N>]) -> Result<Vec<u8>, AllocError>
-    ensures same { IfOk result (λ seats.
-        IsPermutation (map (λ p. p.seat) passes.now) seats.items) }
-    ensures sorted { IfOk result (λ seats. IsSorted nat_cmp seats.items) }
+    ensures { IfOk result (λ seats. SeatsBack passes.now seats.items) }
 {
     let mut seats = Vec::with_capacity(alloc, passes.len())?;
     for pass in passes {
@@ -287,7 +283,7 @@ where
     R: Threads + Wait + Clock + Sync,
     D: Door,
     G: Gate + Sync,
-    ensures seats { IfOk result (λ back. SeatsBack passes.items back.items) }
+    ensures seats { IfOk result (λ back. SeatsBack passes.items (seats_in back.items)) }
     ensures door { AskedDoor D.failures D.closed door.old door.new result }
     ensures going { IsErrOf result ServeFault.Keep → ⊥ }
 {

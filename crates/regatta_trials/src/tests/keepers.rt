@@ -45,7 +45,10 @@ fn fault_of<N: KeptName, H: Wait + Drop, R: Wait>(
     let (office, _) = office.split::<N>().ok()?;
     let mut guard = office.desk(rt);
     let desk = &mut *guard;
-    Keeper::open(alloc, desk, log, history).err()
+    match Keeper::open(alloc, desk, log, history) {
+        Ok(_) => None,
+        Err(unkept) => Some(unkept.fault),
+    }
 }
 
 /// The same of a new office.

@@ -1,7 +1,7 @@
 use Rattle.std.proofs.Common.{refl, sym, ◌∙◌}
 use Rattle.clap.specs.Words.{found_of}
 use Rattle.clap.specs.declared.parser.matches.ArgMatches.TheViews.{out-ArgMatches}
-use Rattle.regatta_office.proofs.Asking.{replay_is, serving_is, words_is}
+use Rattle.regatta_office.proofs.Asking.{explain_is, replay_is, serving_is, words_is}
 use Rattle.regatta_office.proofs.options.run_asked.Goals as goal
 
 -- a replay
@@ -20,8 +20,16 @@ returns-in-Some-subcommand_matches c =
     c.in_ok-serving.ensures
 
 -- the vocabulary
+pub returns-in-Some-subcommand_matches-2 : goal.returns-in-Some-subcommand_matches-2
+returns-in-Some-subcommand_matches-2 c =
+    words_is (out-ArgMatches c.args.matches.now).subcommand
+    (found_of c.in-Some-subcommand_matches-2._options.now)
+    (sym (c.in-Some-subcommand_matches-2.ensures.found.0 refl))
+    (sym c.in-Some-subcommand_matches-2.ensures.rows)
+
+-- a standing explained
 pub returns : goal.returns
 returns c =
-    words_is (out-ArgMatches c.args.matches.now).subcommand
-    (found_of c.in_ok-_options._options.now)
-    (sym (c.in_ok-_options.ensures.found.0 refl)) (sym c.in_ok-_options.ensures.rows)
+    explain_is (out-ArgMatches c.args.matches.now).subcommand (found_of c.in_ok-options.options.now)
+    c.in_ok-series.series (sym (c.in_ok-options.ensures.found.0 refl))
+    (sym c.in_ok-options.ensures.rows) (sym c.in_ok-series.was ∙ c.series_of.ensures)
