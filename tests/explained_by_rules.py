@@ -257,9 +257,9 @@ class Series:
         for position, scores in enumerate(zip(first.counting(), second.counting()), 1):
             if scores[0] != scores[1]:
                 return {**found, "rule": "A8.1", "position": position, "scores": list(scores)}
-        for race, *scores in list(zip(self.scored, first.points, second.points))[::-1]:
-            if scores[0] != scores[1]:
-                return {**found, "rule": "A8.2", "race": race, "scores": scores}
+        for race, one, other in list(zip(self.scored, first.points, second.points))[::-1]:
+            if one != other:
+                return {**found, "rule": "A8.2", "race": race, "scores": [one, other]}
         return found
 
     def last_entry(self) -> int:
