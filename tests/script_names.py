@@ -12,7 +12,7 @@ from dataclasses import dataclass, field
 OF_BROWSERS = set("""AbortController Boolean Date Error EventSource FormData Infinity Intl JSON Map Math NaN Node Number Object
     Promise Response Set String SyntaxError URL Uint8Array Array addEventListener btoa caches clearTimeout clients crypto
     document encodeURIComponent fetch isSecureContext localStorage location navigator performance registration
-    requestAnimationFrame sessionStorage setInterval setTimeout skipWaiting structuredClone undefined window""".split())
+    requestAnimationFrame scrollY sessionStorage setInterval setTimeout skipWaiting structuredClone undefined window""".split())
 WORDS = set("""await break case catch class const continue default delete do else export extends false finally for function
     if import in instanceof let new null return static super switch this throw true try typeof var void while yield""".split())
 NAME = r"[A-Za-z_$][\w$]*"
