@@ -86,7 +86,7 @@ service/writing: write_again write_once
 HEAD = re.compile(r"( *)(?:pub(?:\([a-z ]+\))? )?(?:const )?fn (\w+)")
 CLAUSE = re.compile(r" *(?:requires|ensures)\b")
 RECORD = re.compile(r"(?:pub )?(?:abbrev )?record (\w+)")
-TEST = re.compile(r"(?:matches!\(|if let |while let |\blet )(.*)")
+TEST = re.compile(r".*matches!\((.*)|.*?(?:if let |while let |\blet )(.*)")
 
 
 @dataclass
@@ -164,8 +164,8 @@ def patterns(body: list[str]) -> Iterator[str]:
                 if re.match(rf" {{{indent + 4}}}[^ }}]", arm):
                     arms.append(arm.split("=>")[0])
             yield "\n".join(arms)
-        elif test := TEST.search(line):
-            yield test[1].split(" = ")[0]
+        elif test := TEST.match(line):
+            yield (test[1] or test[2]).split(" = ")[0]
 
 
 def decisions(function: Function) -> Counter[str]:

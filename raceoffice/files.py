@@ -155,3 +155,11 @@ def append_whole(path: str, data: bytes, ended: bytes = b"", called: str = "") -
         # One who has the lock may have been stopped.
         is_alone = system.take_lock(number, PATIENCE)
         write_all(number, (ended if is_torn(number) else b"") + data, is_alone)
+
+
+def stamp_of(path: str) -> object:
+    """What is another whenever a file is; None if there is none."""
+    with contextlib.suppress(OSError):
+        found = os.stat(path)
+        return found.st_mtime_ns, found.st_size
+    return None

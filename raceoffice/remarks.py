@@ -71,7 +71,7 @@ ENGLISH: dict[str, str | tuple[str, str] | tuple[str, str, str]] = {
     "table-cell": "the table has a cell {said}, which isn't a score",
     "table-begin": "the table begins with {said}",
     "table-row": "the table has a row {said}",
-    "table-order": "the table's order of {sail} and {other} isn't {rule}'s",
+    "table-explained": "the program explains another table",
     "journal-entry": "the journal has an entry {said}",
     "office-denied": "this account may not open {path}",
     "office-unreached": "{path} can't be reached: {why}",
@@ -234,6 +234,8 @@ ENGLISH: dict[str, str | tuple[str, str] | tuple[str, str, str]] = {
     "list-title": "Row {title} of {name} is a title; the headings are in row {first}. Take out what is above row {first}.",
     "list-no-sails": "No column of {name} has the heading Sail, SailNo or SailNumber.",
     "list-like-sails": "No column of {name} has the heading Sail, SailNo or SailNumber. {heading!r} isn't one of them.",
+    "list-headless": "{name}, row {row}: {written} stands where the headings have to be. Put a row above it with what is in each column, "
+                     "as Sail, Boat and Helm.",
     "list-row": "{name}, row {row}: {fault}",
     "list-row-of": "{name}, row {row} ({helm}): {fault}",
     "list-no-boats": "{name} has headings, but no boats.",
@@ -357,7 +359,8 @@ ENGLISH: dict[str, str | tuple[str, str] | tuple[str, str, str]] = {
     "finisher-unwritten": "{name} can't be written: {why}. Write her down on paper",
     "places-unread": "office/places can't be read",
     "places-several": "more than one place is kept: type {marks:or} and her sail",
-    "places-most": "race {race} keeps {kept} places, more than boats are entered: say first who was there, or that nobody was",
+    "places-most": "race {race} keeps {kept} places, more than boats are entered: write her down on paper, and say first who was there, or that nobody was",
+    "places-many": "{kept} places are kept in all races: write her down on paper, and say first who was there, or that nobody was",
     "places-among": "race {race} keeps places among these boats: {marks}. Say first who was there. Or move the boats ahead of a place by "
                     "themselves, and then those behind it: the place stays in race {race}",
     "no-place": "no finisher {mark} is kept in race {race}",

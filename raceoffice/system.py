@@ -15,6 +15,7 @@ import signal
 import socket
 import sys
 import tempfile
+import threading
 import time
 from collections.abc import Callable, Iterator, Mapping
 from dataclasses import dataclass
@@ -50,6 +51,9 @@ LOCAL = re.compile(r"\|-- (\S+)\s+/32 host LOCAL")
 BOOT = "/proc/sys/kernel/random/boot_id"
 # Seconds without a sign after which what was typed has ended, and how much of it is taken at most.
 PAUSE, MOST_TYPED = 0.05, 65536
+# Seconds after which a signal comes that was deferred, though what it waits for hasn't ended; and whether the system has a
+# clock for that.
+DEFERRED, CLOCK = 20.0, hasattr(signal, "setitimer")
 # The signals that end a window. Under `nohup` a terminal that goes away ends none.
 STOPS = {signal.SIGINT, signal.SIGTERM}
 if hasattr(signal, "SIGHUP") and signal.getsignal(signal.SIGHUP) != signal.SIG_IGN:
@@ -289,10 +293,14 @@ def command_line_of(number: int) -> list[bytes]:
 
 
 def works_in(number: int, folder: str) -> bool:
-    """Whether a process has this folder for its own. The kernel says where it is: the folder of another office isn't asked,
-    which may hang."""
+    """Whether a process has this folder for its own, by whatever path. The kernel says where it is: the folder of another
+    office, which may hang, is asked only if it is of the same file system as this one."""
     with contextlib.suppress(OSError):
-        return os.readlink(f"/proc/{number}/cwd") == os.path.realpath(folder)
+        there = os.readlink(f"/proc/{number}/cwd")
+        if there == os.path.realpath(folder):
+            return True
+        mount = mounts().get(mount_of(there))
+        return mount is not None and mount.device == os.stat(folder).st_dev and os.path.samefile(there, folder)
     return False
 
 
@@ -300,6 +308,49 @@ def hold_stops() -> None:
     """From now on a signal that would end this window waits until it is asked for."""
     signal.pthread_sigmask(signal.SIG_BLOCK, STOPS)
     pass_over_quit()
+
+
+@contextlib.contextmanager
+def stops_deferred() -> Iterator[None]:
+    """Lets a signal that ends this window come only after what is done inside, of which a part alone would be wrong, or after
+    some seconds if that hangs. Signals come to the main thread, and end no other."""
+    if threading.current_thread() is not threading.main_thread():
+        yield
+        return
+    handlers = {number: signal.getsignal(number) for number in STOPS}
+    held = {number: handler for number, handler in handlers.items() if handler not in (None, signal.SIG_IGN)}
+    came: list[int] = []
+
+    is_inside = True
+
+    def let_come(*_: object) -> None:
+        for number, handler in held.items():
+            signal.signal(number, handler)
+        # Ctrl-C, which is an exception, keeps none back that ends the window.
+        came.sort(key=lambda number: number == signal.SIGINT)
+        while came:
+            signal.raise_signal(came.pop(0))
+
+    def defer(number: int, _: object) -> None:
+        came.append(number)
+        # No clock is left that nobody hears: it would end the process.
+        if CLOCK and is_inside and len(came) == 1:
+            signal.setitimer(signal.ITIMER_REAL, DEFERRED)
+    before = signal.signal(signal.SIGALRM, let_come) if CLOCK else None
+    for number in held:
+        signal.signal(number, defer)
+    try:
+        yield
+    except BaseException:
+        # What went wrong is said: Ctrl-C would hide it.
+        came[:] = [number for number in came if number != signal.SIGINT]
+        raise
+    finally:
+        is_inside = False
+        if CLOCK:
+            signal.setitimer(signal.ITIMER_REAL, 0)
+            signal.signal(signal.SIGALRM, before)
+        let_come()
 
 
 def pass_over_quit() -> None:

@@ -9,7 +9,6 @@ import select
 import sys
 import textwrap
 import threading
-import time
 import unicodedata
 from collections.abc import Callable
 
@@ -233,26 +232,6 @@ def question(text: str, yes: bool = False, tell: Callable[[str], None] = lambda 
         tell(given)
         say(YES_OR_NO)
     return False
-
-
-class Progress:
-    """Shows on a terminal how far long work is, as `cup: R12 of 40`. Nothing is shown of what takes less than
-    two seconds, nor if nobody waits at the terminal."""
-
-    def __init__(self, name: str, is_at_terminal: bool = True) -> None:
-        self.name, self.begun, self.is_shown, self.is_at_terminal = name, time.monotonic(), False, is_at_terminal
-
-    def __call__(self, done: int, whole: int) -> None:
-        if self.is_at_terminal and sys.stderr.isatty() and time.monotonic() > self.begun + 2.0:
-            self.is_shown = True
-            sys.stderr.write("\r" + visible(f"{self.name}: R{done} of {whole}") + CLEARED)
-            sys.stderr.flush()
-
-    def end(self) -> None:
-        """Takes away what was shown."""
-        if self.is_shown:
-            sys.stderr.write("\r" + CLEARED)
-            sys.stderr.flush()
 
 
 class Once:

@@ -11,7 +11,7 @@ from raceoffice.verify import page_data
 NUMBER = r"-?[0-9]{1,5}"
 FREE = r"(?s).*"
 ADDRESS = r"[A-Za-z0-9%._~-]+/"
-HREF = (r"\?|#(?:c[0-9]+-)?(?:table|class|tie-[a-z]+)|\.\./index\.html"
+HREF = (r"#(?:c[0-9]+-)?(?:table|class|tie-[a-z]+)|\.\./index\.html"
         rf"|\.\./{ADDRESS}index\.html|(?:{ADDRESS})?(?:index|race-[0-9]+)\.html|(?:{ADDRESS})?results\.csv")
 IDS = (r"alarm|once|find|found|more|proof|coded|missing"
        r"|(?:c[0-9]+-)?(?:table|caption|class|tie-[a-z]+|[A-Z0-9-]{1,12})")

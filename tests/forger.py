@@ -16,7 +16,7 @@ from typing import Any
 import helpers
 
 from raceoffice.errors import ForeignPage, Trouble, Unsure
-from raceoffice.program import replay
+from raceoffice.program import explanation, replay
 from raceoffice.results import exports
 from raceoffice.results.html import page as pages, sealing
 from raceoffice.results.html.listing import listing
@@ -161,18 +161,19 @@ class Forger:
 @contextlib.contextmanager
 def remembered() -> Iterator[None]:
     """Replays of the same journal are run once: the program answers them always alike."""
-    plain = {"printed": replay.printed, "watched": replay.watched}
-    known: dict[object, list[str]] = {}
+    plain: list[tuple[Any, str]] = [(replay, "printed"), (explanation, "explained")]
+    known: dict[object, object] = {}
 
-    def kept(name: str, *asked: object) -> list[str]:
-        key = repr((name, [value for value in asked if not callable(value)]))
+    def kept(ask: Callable[..., object], *asked: object) -> object:
+        key = repr((ask, asked))
         if key not in known:
-            known[key] = plain[name](*asked)  # type: ignore[operator]
-        return list(known[key])
+            known[key] = ask(*asked)
+        return copy.copy(known[key])
 
     with contextlib.ExitStack() as stack:
-        for name in plain:
-            stack.enter_context(unittest.mock.patch.object(replay, name, functools.partial(kept, name)))
+        for module, name in plain:
+            asked = functools.partial(kept, getattr(module, name))
+            stack.enter_context(unittest.mock.patch.object(module, name, asked))
         yield
 
 

@@ -25,7 +25,8 @@ if "raceoffice.series.second_folder" in sys.orig_argv:
     os.path.isdir = is_folder_at_last
 """
 
-# Whoever asks a system about a path of this folder waits while its mark is there, but for a program of the series.
+# Whoever asks a system about a path of this folder waits while its mark is there, but for a program of the series. The folder
+# is a file system of its own, as a drive is.
 DEAD = """
 import builtins, io, os, time
 dead, mark, look = os.environ["DEAD_FOLDER"], os.environ["DEAD_FOLDER"] + ".mark", os.lstat
@@ -46,9 +47,18 @@ def waiting(call):
         return call(path, *words, **more)
     return asked
 
+def with_mount(call):
+    def opened(path, *words, **more):
+        file = call(path, *words, **more)
+        if path != "/proc/self/mountinfo":
+            return file
+        with file:
+            return io.StringIO(f"{file.read()}1 1 0:999 / {dead} rw - far far rw\\n")
+    return opened
+
 for name in ("stat", "lstat", "open", "listdir", "scandir", "mkdir", "remove"):
     setattr(os, name, waiting(getattr(os, name)))
-builtins.open = io.open = waiting(io.open)
+builtins.open = io.open = with_mount(waiting(io.open))
 """
 
 

@@ -34,6 +34,8 @@ sys.path[1:1] = [SLOW, os.path.dirname(HERE)]
 PATIENCE = float(os.environ.get("PATIENCE", "900"))
 # Seconds that a worker has for its end when there are no more checks.
 LEAVE = 60.0
+# How many checks are tried at a time: many wait for a clock or a browser most of their time, so two more than processors.
+WORKERS = min(6, max(4, len(os.sched_getaffinity(0)) + 2))
 # How many of the slowest checks are named.
 SLOWEST = 10
 PASSED, FAILED, SKIPPED = "passed", "failed", "not tried"
@@ -280,7 +282,8 @@ def asked_of() -> argparse.Namespace:
     parser.add_argument("program", help="the built program")
     parser.add_argument("name", nargs="*", help="a module, a class or a check; all if none is named")
     parser.add_argument("--quick", action="store_true", help="leave out the tests of the folder slow")
-    parser.add_argument("--workers", type=int, default=4, metavar="N", help="how many are tried at a time")
+    parser.add_argument("--workers", type=int, default=WORKERS, metavar="N",
+                        help=f"how many are tried at a time ({WORKERS} here)")
     asked = parser.parse_args()
     if not os.access(asked.program, os.X_OK):
         parser.error(f"{asked.program} is no program that can be run")

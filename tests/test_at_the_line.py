@@ -4,6 +4,7 @@ from __future__ import annotations
 
 import fcntl
 import os
+import signal
 import threading
 import unittest
 from collections.abc import Callable
@@ -98,6 +99,23 @@ class AtTheLine(OnWater):
             self.assertTrue(scorer.do("abandon 1").is_taken)
         self.assertEqual(self.asked, ["abandon", "abandon"])
         self.has(1, "?3")
+
+    def test_abandon_and_ctrl_c(self) -> None:
+        """No place stays of a race that is taken away, also if Ctrl-C comes meanwhile."""
+        self.addCleanup(signal.signal, signal.SIGINT, signal.getsignal(signal.SIGINT))
+        signal.signal(signal.SIGINT, signal.default_int_handler)
+        scorer = Session(self.room.folder, "SCORER", "Cy", lambda said: None, self.answered)
+        scorer.connect()
+        self.addCleanup(scorer.disconnect)
+        self.sends(1, "FINISH 1 GBR101", "? 1")
+
+        def is_sent_and_pressed(*words: Any) -> bool:
+            signal.raise_signal(signal.SIGINT)
+            return is_sent(*words)
+        with mock.patch("raceoffice.session.abandon.is_sent", is_sent_and_pressed), self.assertRaises(KeyboardInterrupt):
+            scorer.do("abandon 1")
+        self.bob.session.look()
+        self.has(1, "")
 
     def agreed(self, line: str) -> list[dict[str, Any]]:
         """What is asked of a scorer's line."""

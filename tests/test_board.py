@@ -22,8 +22,10 @@ from collections.abc import Mapping
 from dataclasses import dataclass
 from typing import Any
 from concurrent.futures import ThreadPoolExecutor
+from unittest import mock
 
 import helpers
+from hanging_folder import Dead
 from raceoffice.program.link import Link
 
 RACE = ["FINISH 1 GBR101", "FINISH 1 NED12", "FINISH 1 GBR7", "MARK 1 FRA9 OCS", "SCORE 1"]
@@ -130,6 +132,28 @@ class Boards(helpers.Series):
             capture_output=True, text=True)
         self.assertNotIn("NO ", done.stdout)
         self.write(done.stdout.partition("BYE\n")[2], name, "journal.txt")
+
+    # A folder that hangs
+
+    def test_hanging(self) -> None:
+        """A class whose folder hangs is away, and the others are shown, with what changes. It comes back by itself, and the end
+        of the board doesn't wait for it."""
+        self.make("fast", every="1")
+        dead = Dead(self, self.make("far", every="1"))
+        for name in ("fast", "far"):
+            self.journal(*RACE, name=name)
+        board, _ = self.board("fast", "far")
+        dead.begin()
+        self.journal(*RACE, *SECOND, name="fast")
+        helpers.until("the other class", lambda: b"R2" in self.get("/fast/").data)
+        board.read("far doesn't answer")
+        self.assertEqual((self.now("fast")["office"], self.now("far")["office"]), ("journal", "away"))
+        dead.end()
+        helpers.until("the class", lambda: self.now("far")["office"] == "journal")
+        dead.begin()
+        board.read("far doesn't answer")
+        board.press()
+        self.assertEqual(board.rest()[1], 0)
 
     # Phones
 
@@ -423,6 +447,17 @@ class Boards(helpers.Series):
             self.assertEqual(row["total"], whole[mine[1]][2])
         self.assertIn('<td class="total">', self.text("out", "cup", "index.html"))
 
+    def test_one_folder(self) -> None:
+        """Two series whose settings name the same folder for their pages, each in its way, have theirs in it, each beside the
+        other; its first page is the list of both."""
+        self.write(self.text("cup", "series.ini").replace("page = ", "page = ../site"), "cup", "series.ini")
+        self.make("fleet", page=os.path.join(self.here, "site"))
+        said, _ = helpers.run("board", "cup", "fleet", "--once", cwd=self.here)
+        self.assertEqual([os.path.exists(os.path.join(self.here, "site", name, "index.html")) for name in ("cup", "fleet")], [True, True])
+        first = self.text("site", "index.html")
+        self.assertEqual(['href="cup/' in first, 'href="fleet/' in first], [True, True])
+        self.assertEqual(said.count("Pages are in"), 1)
+
     def test_files(self) -> None:
         self.make("fleet", **{"class": "Folk boat"})
         self.journal(*RACE)
@@ -471,10 +506,20 @@ class Boards(helpers.Series):
         self.assertFalse(os.path.exists(os.path.join(self.here, "out", "cup")))
 
 
+class Late(unittest.TestCase):
+    def test_ended_as_it_was_given_up(self) -> None:
+        """A look that has come late may end just as its series was found to be away: the board goes on."""
+        from raceoffice.commands.board import said_of
+        source = mock.Mock(office="away")
+        source.name = "far"
+        self.assertEqual(said_of(source, "", 3, True, False), "far: the office is away.")
+
+
 class Moments(unittest.TestCase):
     """Times with their zones, as a calendar has them."""
 
     def test_zones(self) -> None:
+        from raceoffice.program.explanation import Explanation
         from raceoffice.program.journal import Series
         from raceoffice.program.standing import Standing
         from raceoffice.results.snapshot import Snapshot
@@ -488,7 +533,7 @@ class Moments(unittest.TestCase):
             with helpers.folder() as here:
                 with open(os.path.join(here, "series.ini"), "w") as file:
                     file.write(settings.filled_in({"title": "x", "zone": zone}))
-                view = Snapshot("x", settings.read(here), Standing((), ()), Series(), {}, {},
+                view = Snapshot("x", settings.read(here), Standing((), ()), Series(), {}, Explanation(),
                             datetime.datetime(2026, 1, 1))
                 when = datetime.datetime(*moment, tzinfo=datetime.timezone.utc)
                 self.assertEqual(view.when(when), wanted)

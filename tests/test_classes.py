@@ -3,12 +3,19 @@ from __future__ import annotations
 
 import os
 import signal
+import socket
+import threading
 import unittest
 import unittest.mock
 
 import helpers
+from hanging_folder import Dead
+from raceoffice.program.link import Link
 from raceoffice.series.folder import Folder
+from raceoffice.session.session import Session
 from raceoffice.typing_window import watcher
+from raceoffice.typing_window.classes import class_named, short
+from raceoffice.typing_window.window import Window
 
 FLEET = "Boat,Sail\nFulmar,GBR 33\nSterna,NED 80\nPetrel,NED 84\n"
 
@@ -203,6 +210,215 @@ OK 9   cup: DNF in race 1
         window.type("quit")
         self.assertEqual(window.rest(), ("Kept without a sail of cup: 412?2 in race 1.\nKept without a sail "
                                          "of fleet: 412?2 in race 1.\n", 0))
+
+    def both_at_race(self) -> tuple[helpers.Terminal, helpers.Terminal]:
+        """A window at a race of both classes, in each of which somebody has finished, and that of the office of fleet."""
+        self.open()
+        office = self.open("fleet")
+        window = self.client("cup", "fleet", "--role", "finish")
+        self.play(window, "> c at 1\n> f at 1\n> c 101\n> 84")
+        return window, office
+
+    def kill_fleet(self) -> None:
+        os.kill(int(self.text("fleet", "office", "pid").split()[0]), signal.SIGKILL)
+
+    def keep(self, window: helpers.Terminal) -> None:
+        """Somebody of whom nobody knows the class is kept in both."""
+        window.type("?")
+        said = window.read(r"(?s)\?1 keeps her place.*\?1 keeps her place.*> $")
+        self.assertIn("fleet: ?1 keeps her place.", said)
+        self.assertIn("cup: ?1 keeps her place.", said)
+        self.assertNotIn("Not sent", said)
+
+    def check_place(self, window: helpers.Terminal) -> None:
+        """She is where she crossed the line, once fleet is back and she is known."""
+        window.read(r"The office of fleet is back with 4 entries\.\n(?s:.*)"
+                    r"Kept without a sail of fleet: \?1 in race 1\.\n(?s:.*)> $")
+        self.play(window, """
+> f 33
+OK 5   fleet: 3rd in race 1, with 1 unread finisher ahead
+> ?1 80
+OK 6   fleet: 2nd in race 1
+   cup: ?1 is dropped.
+> f race 1
+     1  NED 84 Petrel
+     2  NED 80 Sterna
+     3  GBR 33 Fulmar
+""")
+
+    def test_kept_while_away(self) -> None:
+        """Who may be of a class whose office has gone is kept there, too, and a number in both classes as well."""
+        window, office = self.both_at_race()
+        self.kill_fleet()
+        window.read("Beware: the office has gone, that of fleet. The others go on.")
+        window.read("> $")
+        self.keep(window)
+        self.play(window, """
+> 33
+   33 may be GBR 33 Turnstone (cup) or GBR 33 Fulmar (fleet).
+   fleet: 33? keeps her place.
+   cup: 33? keeps her place.
+> undo
+   fleet: 33? is dropped.
+""".replace("> undo", "> undo\n> y"))
+        office.rest()
+        self.open("fleet")
+        self.check_place(window)
+
+    def test_kept_as_it_goes(self) -> None:
+        """So is she if the window learns only then that the office has gone: nothing is said not to be sent."""
+        self.open()
+        office = self.open("fleet")
+        self.addCleanup(signal.signal, signal.SIGUSR1, signal.getsignal(signal.SIGUSR1))
+        said: list[str] = []
+        with unittest.mock.patch("raceoffice.typing_window.window.say", said.append):
+            window = Window([Folder(os.path.join(self.here, name)) for name in ("cup", "fleet")], "FINISH", "")
+            for session in window.sessions:
+                session.connect()
+                self.addCleanup(session.disconnect)
+                session.at = 1
+            self.kill_fleet()
+            office.rest()
+            self.assertEqual(window.refused("?"), "")
+            self.assertEqual(said, ["Beware: the office has gone, that of fleet. The others go on.", "   ? is for one class.", *[
+                f"   {name}: ?1 keeps her place. Once she is known, type: ?1 and her sail (or none)"
+                for name in ("fleet", "cup")]])
+            said.clear()
+            self.check_hanging(window)
+        self.assertEqual(said[1], "   fleet: she isn't kept there: its folder doesn't answer. Write her down, and look whether she is kept "
+                         "once it does.")
+        self.assertEqual(said[2].partition(" Once")[0], "   cup: ?2 keeps her place.")
+
+    def check_hanging(self, window: Window) -> None:
+        """If the folder of the class that is away hangs, its class is named, and the lines after it wait."""
+        kept, end = Folder.kept, threading.Event()
+
+        def hanging(folder: Folder) -> list[str]:
+            if folder.path.endswith("fleet"):
+                end.wait()
+            return kept(folder)
+
+        with unittest.mock.patch.object(Folder, "kept", hanging), unittest.mock.patch("raceoffice.side_by_side.PATIENCE", 0.2):
+            self.assertEqual(window.refused("?"), "since she isn't kept in fleet")
+            end.set()
+
+    def test_kept_while_it_comes_back(self) -> None:
+        """So is she while an office is opened again at once; in one that was closed for good she isn't."""
+        window, _ = self.both_at_race()
+        self.write("again", "fleet", "office", "closing")
+        window.read("closed, and opened again at once, that of fleet. The others go on.")
+        window.read("> $")
+        self.keep(window)
+        os.remove(os.path.join(self.here, "fleet", "office", "closing"))
+        self.check_place(window)
+        self.write("", "fleet", "office", "closing")
+        window.read("Beware: the office is being closed, that of fleet. The others go on.")
+        window.read("> $")
+        said = window.say("?", r"cup: \?2 keeps her place(?s:.*)\n.*> $")
+        self.assertNotIn("fleet: ?2", said)
+        self.assertIn("fleet: she isn't kept there, since its office was closed. If she is of that class, write her down", said)
+
+    def test_sail_like_a_class(self) -> None:
+        """Three letters and a number are a sail, also of a boat that isn't entered, and no class that begins so."""
+        sessions = [Session(Folder(os.path.join(self.here, name)), "FINISH", "", lambda _: None, lambda _: True)
+                    for name in ("cup", "fleet")]
+        for typed, wanted in ("fle 12", ""), ("f 12", "fleet"), ("flee 12", "fleet"), ("cup 12", "cup"), ("fle score 1", "fleet"):
+            named = class_named(sessions, typed.split())
+            self.assertEqual(named.folder.name if named else "", wanted, typed)
+        self.assertEqual([short(session, sessions) for session in sessions], ["c", "f"])
+
+    def test_same_names(self) -> None:
+        """Two folders of one name aren't told apart by any line."""
+        window = self.window("type", "cup", "cup", "--role", "finish")
+        self.assertIn("two of the folders are called cup", window.rest()[0])
+
+    def test_role_while_away(self) -> None:
+        """A role that is changed while the office of one class is away is that of the class once it is back."""
+        window, office = self.both_at_race()
+        self.kill_fleet()
+        window.read("that of fleet. The others go on.")
+        window.read("> $")
+        window.say("role scorer", "cup: your lines are now those of the scorer\n(?s:.*)> $")
+        office.rest()
+        self.open("fleet")
+        window.read("The office of fleet is back(?s:.*)> $")
+        window.say("f mark 1 80 dns", "OK 5   fleet: DNS in race 1(?s:.*)> $")
+        for name in ("cup", "fleet"):
+            os.kill(int(self.text(name, "office", "pid").split()[0]), signal.SIGKILL)
+            window.read(f"that of {name}. The others go on.")
+            window.read("> $")
+        window.say("role jury", "Not sent: all offices have gone.\n(?s:.*)> $")
+
+    def test_entered_meanwhile(self) -> None:
+        """A number that a boat has, too, who was entered in the other class since isn't taken for that of the one alone."""
+        window, _ = self.both_at_race()
+        link = Link(os.path.join(self.here, "fleet", "office", "race.sock"))
+        self.assertEqual(link.ask("ENTER USA7")[:2], "OK")
+        link.close()
+        said = window.say("7", r"7\? keeps her place(?s:.*)7\? keeps her place(?s:.*)> $")
+        self.assertRegex(said, r"7 may be GBR 7 .*\(cup\) or USA7 \(fleet\)")
+
+    def test_not_kept_while_away(self) -> None:
+        """The class in which she can't be kept is named at once; the other keeps her."""
+        window, _ = self.both_at_race()
+        self.kill_fleet()
+        window.read("that of fleet. The others go on.")
+        window.read("> $")
+        journal = self.text("fleet", "journal.txt")
+        self.write(journal[:journal.rindex("1 FINISH")], "fleet", "journal.txt")
+        self.play(window, """
+> ?
+   fleet: she isn't kept there: journal.txt has changed. Write her down.
+   cup: ?1 keeps her place.
+""")
+        self.write(journal, "fleet", "journal.txt")
+        os.mkdir(os.path.join(self.here, "fleet", "office", "places"))
+        self.play(window, """
+> ?
+   fleet: she isn't kept there: 
+. Write her down on paper.
+   cup: ?2 keeps her place.
+""")
+
+    def test_office_that_hangs(self) -> None:
+        """An office that is there and doesn't answer holds up no line for the other class, and Ctrl-C ends no window meanwhile.
+        Once it answers it is back."""
+        waits = {"program.link.PATIENCE": 600, "typing_window.watcher.SOON": 600}
+        self.open()
+        office = self.open("fleet")
+        window = self.client("cup", "fleet", "--role", "finish", waits=waits)
+        self.play(window, "> c at 1\n> f at 1")
+        self.kill_fleet()
+        window.read("that of fleet. The others go on.")
+        office.rest()
+        path = os.path.join(self.here, "fleet", "office", "race.sock")
+        os.remove(path)
+        with socket.socket(socket.AF_UNIX) as deaf:
+            deaf.bind(path)
+            deaf.listen()
+            held, _ = deaf.accept()
+            window.type("c 101")
+            window.read("OK 8   cup: 1st in race 1")
+            window.read("> $")
+            window.press()
+            window.read("Type quit to leave")
+            window.say("c 7", "OK 9   cup: 2nd in race 1")
+            os.remove(path)
+        held.close()
+        self.open("fleet")
+        window.read("The office of fleet is back with 3 entries")
+
+    def test_terminal_closed_while_a_folder_hangs(self) -> None:
+        """A window that keeps somebody in a folder that hangs goes with its terminal: it has a seat of the other class."""
+        dead = Dead(self, os.path.join(self.here, "fleet"))
+        self.open()
+        self.open("fleet")
+        window = self.client("cup", "fleet", "--role", "finish", waits={"system.DEFERRED": 0.1})
+        self.play(window, "> c at 1\n> f at 1")
+        dead.begin()
+        window.say("?", r"cup: \?1 keeps her place")
+        window.process.send_signal(signal.SIGHUP)
+        self.assertEqual(window.process.wait(helpers.PATIENCE), -signal.SIGHUP)
 
     def test_orderly_closing(self) -> None:
         """A class whose office is closed is gone once, and isn't back while it is being closed."""

@@ -113,17 +113,21 @@ class Guarded(helpers.Series):
         with mock.patch("raceoffice.commands.board.say") as said:
             sources = [ResultsSource(os.path.join(self.here, name)) for name in ("cup", "other")]
             shown = board.Shown(sources, [Files(os.path.join(self.here, "out"), Site(sources))], None)
-            self.assertTrue(shown.look(sources))
+            self.assertTrue(shown.look())
             for place in ("raceoffice.results.source.entry_list.read", "raceoffice.results.publish.one_race",
                           "raceoffice.results.publish.results_csv", "raceoffice.results.snapshot.Snapshot.ties"):
                 with mock.patch(place, side_effect=IndexError):
                     for source in sources:
                         source.due, source.view = 0.0, None
-                    shown.round()
+                    shown.look("10:00:00 ")
+            for source in sources:
+                source.due = 0.0
             with mock.patch.object(sources[0], "look", side_effect=KeyError):
-                self.assertFalse(shown.look(sources))
+                self.assertFalse(shown.look())
             self.assertEqual([source.view is not None for source in sources], [True, True])
-            self.assertTrue(shown.look(sources))
+            for source in sources:
+                source.due = 0.0
+            self.assertTrue(shown.look())
         self.assertIn("raceoffice has a fault, KeyError", "\n".join(str(call) for call in said.mock_calls))
 
     def test_office(self) -> None:

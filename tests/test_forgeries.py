@@ -27,6 +27,8 @@ from forger import ForgedPages, Forger, Path, journal_of, put, resealed, seals, 
 from raceoffice import characters
 from raceoffice.errors import ForeignPage, Unsure
 from raceoffice.program import replay
+from raceoffice.program.explanation import explanation_of
+from raceoffice.program.standing import Standing
 from raceoffice.results.html.listing import listing
 from raceoffice.results.html.notice_board import results as notice
 from raceoffice.results.html.overall import overall
@@ -104,7 +106,8 @@ class Forgeries(ForgedPages):
                       ("<main ", f"{ANOTHER}<main "), ("</main>", f"{SCRIPT}</main>"),
                       ("<header>", f"<p>{LINE}</p><header>"), ("</style>", ".r { color: red }</style>"),
                       ('<a class="skip" href="#', '<a class="skip" href="//example.org/#'),
-                      ('href="?"', 'href="javascript:x()"'), ("</html>", f"</html>{ANOTHER}"),
+                      ('"Reload", "?"', '"Reload", "javascript:x()"'), ('role="alert" hidden>', f'role="alert">{LINE}'),
+                      ("</html>", f"</html>{ANOTHER}"),
                       ("<!DOCTYPE html>\n", f"<!DOCTYPE html>\n<!--{LINE}-->"),
                       ('data-version="', 'data-version="1"><script>x()</script><p title="'),
                       ('data-now="', 'data-now="//example.org/')]
@@ -376,6 +379,8 @@ class Forgeries(ForgedPages):
         self.assertEqual(labels_of(self.called(("\u05d01", "A"), ("1\u05d0", "A"))), ["A (%D7%901)", "A (1%D7%90)"])
         honest = ["\u05db\u05d9\u05ea\u05d4 1", "\u05db\u05d9\u05ea\u05d4 2", "\u0641\u0626\u0629 (1)", "\u0641\u0626\u0629"]
         self.assertEqual(labels_of(self.called(*zip("abcd", honest))), honest)
+        for path in (("series", 0, "boats", 0, 2), ("series", 0, "boats", 0, 4)):
+            self.assertTrue(self.is_verified(self.forged("results", path, "\u05d3\u05d5\u05d3 7")))
 
     def test_long_names(self) -> None:
         """Each name is looked at once to tell series apart, and marks without end keep nobody waiting."""
@@ -496,11 +501,15 @@ class Forgeries(ForgedPages):
         """What looks as a space that isn't broken, and is no space, is shown by its number."""
         self.assertIn(r"'GBR 101, A. Mo\u2423ss'", self.said(self.made["results"].replace(">A. Moss<", ">A. Mo\u2423ss<", 1))[1])
 
-    def test_progress(self) -> None:
-        """While it scores, the terminal shows no word of the page."""
-        with unittest.mock.patch.object(verifier, "Progress") as progress:
-            self.assertEqual(self.said(self.made["results"])[0], 0)
-        self.assertEqual({call.args for call in progress.call_args_list}, {("Scoring again",)})
+    def test_row_of_names(self) -> None:
+        """Names that have points or a sail as a row has are said: a browser of texts may break a line before them. One number is
+        no row, nor is a sail without its comma."""
+        for text, is_odd in (("x 1 GBR 101, A. Moss 2.0 1.0 1.0", True), ("2,0 \uff11\uff0e\uff10", True), ("Elan 3.1", False),
+                             ("x 1 GBR 101, A. Moss 1.0", True), ("x 1 ned12\uff0c Al", True), ("NED 12 Friends", False),
+                             ("Al, Bo, 101, Ned", False), ("Al " * 27, True), ("Al " * 18, False)):
+            with self.subTest(text=text):
+                status, said = self.said(self.forged("results", ("series", 0, "boats", 0, 2), text))
+                self.assertEqual((status, "may be taken for a row of it" in said), (0, is_odd), said)
 
     def test_beware(self) -> None:
         """Signs that turn others, or that aren't seen, are said of a page that is verified."""
@@ -563,11 +572,13 @@ class Forgeries(ForgedPages):
         sails = [str(number) for number in range(1, 81)]
         folder = self.make("long", "\n".join(["Sail", *sails, ""]))
         journal = journal_of(folder, *(line for race in range(1, 21) for line in (f"FINISH {race} {race}", f"SCORE {race}")))
+        entries = journal.splitlines()[1:]
+        standing = Standing.read(list(replay.scored(helpers.PROGRAM, ["--exclude", "2"], entries).table))
         tracemalloc.start()
         self.addCleanup(tracemalloc.stop)
-        kept = replay.developed(helpers.PROGRAM, ["--exclude", "2"], journal.splitlines()[1:], range(1, 21))
+        kept = explanation_of(helpers.PROGRAM, ["--exclude", "2"], entries, standing)
         gc.collect()
-        self.assertEqual(len(kept), 20)
+        self.assertEqual(len(kept.course), 20)
         self.assertLess(tracemalloc.get_traced_memory()[0], 800 * 20 * len(sails))
 
     def test_memory_of_pages(self) -> None:

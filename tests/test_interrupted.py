@@ -1,4 +1,5 @@
-"""Ctrl-C while a command is still being loaded: it ends with its status, and Python says nothing."""
+"""Ctrl-C while a command is still being loaded: it ends with its status, and Python says nothing. And a signal that waits
+until something is done whole."""
 from __future__ import annotations
 
 import os
@@ -6,9 +7,12 @@ import shutil
 import signal
 import subprocess
 import sys
+import time
 import unittest
+from unittest import mock
 
 import helpers
+from raceoffice import system
 
 # Presses Ctrl-C when a module is looked for that wasn't loaded yet.
 PRESSES = """\
@@ -77,6 +81,70 @@ class Interrupted(helpers.Series):
             env={**os.environ, "PRESSED_AT": "raceoffice.cli",
                  "PYTHONPATH": os.pathsep.join([os.path.join(self.here, "presses"), helpers.TOP])})
         self.assertEqual(done.returncode, 0, done.stdout)
+
+
+class Deferred(unittest.TestCase):
+    """A signal that comes while something is done of which a part alone would be wrong."""
+
+    def setUp(self) -> None:
+        self.addCleanup(signal.signal, signal.SIGINT, signal.getsignal(signal.SIGINT))
+        signal.signal(signal.SIGINT, signal.default_int_handler)
+
+    def press(self) -> None:
+        """Presses Ctrl-C, and does what follows."""
+        signal.raise_signal(signal.SIGINT)
+        self.done.append("done")
+
+    def test_afterwards(self) -> None:
+        """It comes when all is done, and no clock goes on."""
+        self.done = list[str]()
+        before = signal.getsignal(signal.SIGALRM)
+        with self.assertRaises(KeyboardInterrupt), system.stops_deferred():
+            self.press()
+            self.assertGreater(signal.getitimer(signal.ITIMER_REAL)[0], 0)
+        self.assertEqual((self.done, signal.getitimer(signal.ITIMER_REAL)[0]), (["done"], 0))
+        self.assertEqual(signal.getsignal(signal.SIGALRM), before)
+
+    def test_as_it_ends(self) -> None:
+        """One that comes as it ends sets no clock, which would end the process later."""
+        clock = signal.setitimer
+        self.addCleanup(clock, signal.ITIMER_REAL, 0)
+
+        def pressed(which: int, seconds: float) -> None:
+            clock(which, seconds)
+            if not seconds:
+                signal.raise_signal(signal.SIGINT)
+        with mock.patch.object(signal, "setitimer", pressed), self.assertRaises(KeyboardInterrupt), system.stops_deferred():
+            pass
+        self.assertEqual(signal.getitimer(signal.ITIMER_REAL)[0], 0)
+
+    def test_another(self) -> None:
+        """Ctrl-C keeps none back that ends the window."""
+        heard: list[int] = []
+        self.addCleanup(signal.signal, signal.SIGTERM, signal.getsignal(signal.SIGTERM))
+        signal.signal(signal.SIGTERM, lambda number, _: heard.append(number))
+        with self.assertRaises(KeyboardInterrupt), system.stops_deferred():
+            signal.raise_signal(signal.SIGINT)
+            signal.raise_signal(signal.SIGTERM)
+        self.assertEqual(heard, [signal.SIGTERM])
+
+    def test_what_hangs(self) -> None:
+        """What hangs is ended by it all the same: nothing else would end the window."""
+        self.done = list[str]()
+        end = time.monotonic() + helpers.PATIENCE
+        with mock.patch.object(system, "DEFERRED", 0.05), self.assertRaises(KeyboardInterrupt), system.stops_deferred():
+            self.press()
+            while time.monotonic() < end:
+                time.sleep(0.01)
+            self.done.append("too late")
+        self.assertEqual(self.done, ["done"])
+
+    def test_what_goes_wrong(self) -> None:
+        """Whoever hears why something went wrong isn't told of Ctrl-C instead."""
+        self.done = list[str]()
+        with self.assertRaisesRegex(ValueError, "the disk is full"), system.stops_deferred():
+            self.press()
+            raise ValueError("the disk is full")
 
 
 if __name__ == "__main__":

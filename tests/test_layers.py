@@ -20,7 +20,7 @@ LAYERS = [
     ["remarks"],
     ["errors"],
     ["system"],
-    ["files", "terminal"],
+    ["files", "terminal", "side_by_side"],
     ["traces"],
     ["exit_status"],
     ["program"],

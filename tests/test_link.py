@@ -273,6 +273,14 @@ class Ways(unittest.TestCase):
                 self.assertTrue(system.works_in(own.pid, os.path.dirname(path)))
                 self.assertFalse(system.works_in(serving.pid, os.path.dirname(path)))
 
+    def test_another_path(self) -> None:
+        """A process is found in its folder by any path of that, as where it is mounted twice."""
+        with tempfile.TemporaryDirectory() as other, helpers.served(folder=self.here) as (path, own):
+            folder = os.path.dirname(path)
+            with mock.patch.object(os.path, "realpath", return_value="/mnt/club/cup"):
+                self.assertTrue(system.works_in(own.pid, folder))
+                self.assertFalse(system.works_in(own.pid, other))
+
     def test_no_descriptor(self) -> None:
         """A client for whom the office has no descriptor gets BUSY, and the office goes on."""
         with helpers.served(folder=self.here) as (path, serving):

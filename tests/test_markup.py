@@ -145,7 +145,7 @@ class Policy(ForgedPages):
             for old, new in [("<main", "<img src=x><main"), ("<main", "<main onclick=x"),
                              ("</b>", "</b><b style=x>"),
                              ("</main>", "</main><script></script>"), ('class="skip"', 'class="skip x"'),
-                             ('href="?"', 'href="//x"'), ("</style>", "p { background: url(x) }</style>"),
+                             ('class="skip" href="#', 'class="skip" href="//x#'), ("</style>", "p { background: url(x) }</style>"),
                              ("<main", "<!--x--><main"), ("</body>", "</object></body>"),
                              ('"use strict";', "alert(1);")]:
                 self.assertNotEqual(odd_parts(page.replace(old, new, 1)), [], new)

@@ -15,7 +15,7 @@ from raceoffice.errors import NotSent
 from raceoffice.remarks import Remark, remark
 from raceoffice.series.folder import Folder
 from raceoffice.series.kept_places import Twin
-from raceoffice.session.finishers import MORE, keep
+from raceoffice.session.finishers import LEAST, MORE, keep
 from raceoffice.web.corrections import correct
 from raceoffice.web.finish_order import Elsewhere
 from raceoffice.web.room import Room
@@ -474,6 +474,9 @@ class Most(OnWater):
         super().setUp()
         self.room.look()
         self.window_bob.session.look()
+        least = mock.patch("raceoffice.session.finishers.LEAST", 0)
+        least.start()
+        self.addCleanup(least.stop)
         self.most = len({*self.room.facts.boats, *self.room.facts.names}) + MORE
         for at in range(self.most):
             device = self.window_bob if at % 5 == 1 else self.phone
@@ -498,6 +501,23 @@ class Most(OnWater):
             self.assertRaisesRegex(NotSent, f"race 1 keeps {self.most} places, more than boats are entered", session.do, typed)
         self.assertEqual((self.text("cup", "office", "places"), self.text("cup", "office", "web.taps")), (noted, taps))
         self.assertEqual(self.refused("? 2"), "")
+
+    def test_short_list(self) -> None:
+        """However short the list is, nobody is refused whom a race may have. Who is, is to be written down."""
+        with mock.patch("raceoffice.session.finishers.LEAST", LEAST):
+            self.assertEqual([self.refused("? 1") for _ in range(self.most, 100)], [""] * (100 - self.most))
+            self.assertEqual(self.refused("? 1"), "places-most")
+            self.window_bob.session.at = 1
+            self.assertRaisesRegex(NotSent, ": write her down on paper, and say first", self.window_bob.session.do, "?")
+
+    def test_all_races(self) -> None:
+        """All races together keep places for all boats twice: a device doesn't fill race after race."""
+        for race in range(2, 5):
+            for _ in range(self.most // 3):
+                self.assertIsNotNone(self.phone.send(race, f"? {race}"))
+        while not (why := self.refused("? 5")):
+            pass
+        self.assertEqual((why, len(self.room.history.waiting.all)), ("places-many", 2 * self.most))
 
     def test_of_no_class(self) -> None:
         """Of whom nobody knows the class is kept in each, or she might be in none."""

@@ -8,8 +8,9 @@ from typing import Any
 from unittest import mock
 
 import helpers
+from raceoffice.errors import NotSent
 from raceoffice.series.folder import Folder
-from raceoffice.series.kept_places import History, Note, Twin, history_of, kept_in_words
+from raceoffice.series.kept_places import History, Note, Places, Twin, history_of, kept_in_words
 from raceoffice.series.twins import Twins
 from raceoffice.series.unknown_finishers import Unread
 from raceoffice.session.dialogue import Question, Said
@@ -217,6 +218,30 @@ class Agreeing(helpers.Series):
         self.assertIn("   fleet: 33? keeps her place again.", self.said)
         fleet.do("33? gbr 33")
         self.assertEqual(self.marks(), ([], []))
+
+    def test_undo_in_both(self) -> None:
+        """Undo drops a slip in each class, and its undo keeps her in each again, also after a kill between two classes."""
+        cup, fleet = self.both()
+        for _ in range(2):
+            cup.do("undo")
+            self.assertEqual(self.marks(), ([], []))
+            self.assertIn("   fleet: 33? is dropped.", self.said)
+            fleet.look()
+            self.assertRegex(self.said[-1], r"33\? of race 1 is dropped by Ann at \d\d:\d\d: undone\.")
+            cup.do("undo")
+            self.assertEqual(self.marks(), (["33?"], ["33?"]))
+            self.said.clear()
+            fleet.look()
+        fleet.do("33? gbr 33")
+        self.assertEqual(self.marks(), ([], []))
+
+    def test_undo_that_is_not_written(self) -> None:
+        """If she can't be dropped in the other class, that is said, and she stays there."""
+        cup, _ = self.both()
+        with mock.patch.object(Places, "drop_known", side_effect=NotSent("the disk is full")):
+            cup.do("undo")
+        self.assertEqual(self.marks(), ([], ["33?"]))
+        self.assertIn("   Beware: the disk is full. Still kept: 33?.", self.said)
 
     def test_none_in_one(self) -> None:
         """Who isn't of one class keeps her place in the other."""

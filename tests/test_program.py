@@ -88,11 +88,12 @@ REFUSED = [
     "", "serve", "serve --socket s --clients 0", "serve --socket s --clients 17",
     "serve --socket s --sessions 1000001", "serve --socket s --print csv", "replay --socket s", "Replay",
     "replay replay", "words words", "words --scp 3", "explain --print csv", "replay --print pdf", "replay --scp",
-    "replay --scp 3 --scp 3", "replay --speed",
+    "replay --scp 3 --scp 3", "replay --speed", "preview --print csv", "preview --role office", "preview --role",
+    "preview --role jury --role jury", "explain --role jury", "replay --role jury",
 ]
 # Arguments that ask for help, and what it names.
 HELP = {
-    "--help": ["regatta replay --help"],
+    "--help": ["regatta replay --help", "regatta preview --role jury"],
     "replay --help": [
         "regatta replay", "--absent", "A5.3", "--scp", "44.3(c)", "--exclude", "A2.1", "--handicap", "A3",
         "TIME 1 GBR1 3605", "--journal", "--entries", "--print", "sed '1,/^BYE$/d'"],
@@ -101,6 +102,7 @@ HELP = {
         "regatta replay --print journal", "--clients", "BUSY", "--sessions", "--entries", "--handicap"],
     "words --help": ["JSON", "regatta words > words.json"],
     "explain --help": ["JSON", "regatta explain --journal", "--entries", "--exclude", "--handicap"],
+    "preview --help": ["JSON", "regatta preview --role jury --journal", "--entries", "--exclude", "finish, jury, scorer"],
 }
 # The text of a journal file and of an entry list; what a run of the line `ENTER C` then prints, and what
 # it says. Rules, journal file, entry list and start are checked in this order.
@@ -173,6 +175,9 @@ def fits(value: Any, form: dict[str, Any], whole: dict[str, Any]) -> bool:
         return fits(value, whole["$defs"][form["$ref"].rpartition("/")[2]], whole)
     if "enum" in form:
         return value in form["enum"]
+    for word in ("oneOf", "anyOf"):
+        if word in form:
+            return any(fits(value, one, whole) for one in form[word])
     match form["type"]:
         case "object":
             parts = form["properties"]
@@ -182,8 +187,12 @@ def fits(value: Any, form: dict[str, Any], whole: dict[str, Any]) -> bool:
             return type(value) is list and all(fits(one, form["items"], whole) for one in value)
         case "integer":
             return type(value) is int and form.get("minimum", 0) <= value <= form.get("maximum", value)
+        case "number":
+            return type(value) in (int, float) and value >= form.get("minimum", value)
         case "boolean":
             return type(value) is bool
+        case "null":
+            return value is None
     return type(value) is str and bool(re.search(form.get("pattern", ""), value))
 
 
@@ -389,7 +398,8 @@ class Devices(unittest.TestCase):
 
     def test_output(self) -> None:
         """What fits is printed, also of help."""
-        for words, start in [(["replay"], "OK 1 1 0.0"), (["words"], '{"codes":['), (["explain"], '{"rules":{'), (["--help"], "")]:
+        for words, start in [(["replay"], "OK 1 1 0.0"), (["words"], '{"codes":['), (["explain"], '{"rules":{'),
+                             (["preview"], '{"role":"'), (["--help"], "")]:
             with tempfile.TemporaryFile() as printed:
                 _, said, status = ran(*words, lines=RACE, stdout=printed, preexec_fn=ten_bytes,
                                       restore_signals=False)

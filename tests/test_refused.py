@@ -2,6 +2,7 @@
 from __future__ import annotations
 
 import asyncio
+import json
 import os
 import socket
 import subprocess
@@ -13,7 +14,8 @@ from forger import journal_of
 from raceoffice import version
 from raceoffice.commands.type import asked_role
 from raceoffice.errors import NoTable, Trouble
-from raceoffice.program.standing import Standing, tie_break
+from raceoffice.program import explanation
+from raceoffice.program.standing import Standing
 from raceoffice.results import http_answers, server
 from raceoffice.results.html.page import is_ours
 from raceoffice.results.publish import Files, Site
@@ -131,16 +133,23 @@ class Systems(unittest.TestCase):
             asked_role()
         self.assertEqual(asked.call_count, 5)
 
-    def test_wrong_order(self) -> None:
-        """A table that has two boats with the same net the wrong way round is none (RRS A8.1, A8.2)."""
-        for better, worse, net, rule in (("1.0 4.0", "2.0 3.0", "5.0", "A8.1"),
-                                         ("2.0 1.0", "1.0 2.0", "3.0", "A8.2")):
-            standing = Standing.read(["TABLE 2 RACES 1 2", f"1 A {net} {better}", f"2 B {net} {worse}"])
-            found = tie_break(standing.races, *standing.rows)
-            assert found
-            self.assertEqual(found.rule, rule)
-            with self.assertRaisesRegex(NoTable, f"^the table's order of B and A isn't {rule}'s$"):
-                tie_break(standing.races, *reversed(standing.rows))
+    def test_another_table(self) -> None:
+        """What explains another table than the one that is shown explains nothing, nor does what is no document."""
+        journal = [f"1 {number} SCORER {line}" for number, line in
+                   enumerate(("ENTER A", "ENTER B", "FINISH 1 A", "FINISH 1 B", "SCORE 1"), 1)]
+        table = ["TABLE 2 RACES 1", "1 A 1.0 1.0", "2 B 2.0 2.0"]
+        found = explanation.explanation_of(helpers.PROGRAM, [], journal, Standing.read(table))
+        self.assertEqual((found.last_entry, found.course), (5, ({"A": (1, False), "B": (2, False)},)))
+        right = json.loads(explanation.explained(helpers.PROGRAM, [], journal), parse_float=str)
+        for other in ([*table[:2], "2 B 2.1 2.1"], [*table[:2], "1= B 2.0 2.0"], ["TABLE 1 RACES 1", table[1]],
+                      ["TABLE 2 RACES 1", "1 B 2.0 2.0", "2 A 1.0 1.0"]):
+            with self.assertRaisesRegex(NoTable, "^the program explains another table$"):
+                explanation.explanation_of(helpers.PROGRAM, [], journal, Standing.read(other))
+        odd = [{**right, key: [value]} for key, value in (("boats", 1), ("neighbours", {"rule": "A9"}), ("after_each", {}))]
+        for text in ("", "{", "7", "[]", "{}", *map(json.dumps, odd)):
+            with mock.patch.object(explanation, "explained", return_value=text), \
+                    self.assertRaisesRegex(NoTable, "^the program explains another table$"):
+                explanation.explanation_of(helpers.PROGRAM, [], journal, Standing.read(table))
 
 
 if __name__ == "__main__":

@@ -4,6 +4,7 @@ from __future__ import annotations
 import json
 import os
 import re
+import shutil
 import stat
 import unittest
 
@@ -99,21 +100,41 @@ class Here(helpers.Series):
         window.press()
         window.rest()
 
-    def test_code(self) -> None:
-        """At a terminal each link has its code, which cameras read. --browser opens the scorer's page here, by the link that is
-        shown."""
-        script = os.path.join(self.here, "browser")
+    def browser(self) -> str:
+        """A program in place of a browser, which writes the address that it is given to opened.txt."""
         self.write(f'#!/bin/sh\necho "$1" > {self.here}/opened.txt\n', "browser")
+        script = os.path.join(self.here, "browser")
         os.chmod(script, 0o700)
+        return script
+
+    def test_screen(self) -> None:
+        """Without a series the page on which one is made opens by itself where there is a screen."""
+        for name in ("cup", "fleet", "old"):
+            shutil.rmtree(os.path.join(self.here, name))
+        for screen in ("", ":0"):
+            window = helpers.Terminal(*helpers.COMMAND, "serve", "--http", str(helpers.free_port(self)), cwd=self.here,
+                                      BROWSER=self.browser(), DISPLAY=screen, WAYLAND_DISPLAY="")
+            self.addCleanup(window.close)
+            window.read(r"Ctrl-C closes the office\.")
+            opened = os.path.exists(os.path.join(self.here, "opened.txt"))
+            self.assertEqual(opened, bool(screen))
+            window.press()
+            window.rest()
+        self.assertRegex(self.text("opened.txt"), r"^http://\S+/office/in#scorer\.\S+\n$")
+
+    def test_code(self) -> None:
+        """At a terminal each link has its code, which cameras read. --browser opens the scorer's page here, by a link that isn't
+        shown."""
         window = helpers.Terminal(*helpers.COMMAND, "serve", "cup", "--browser", "--http", str(helpers.free_port(self)),
-                                  cwd=self.here, BROWSER=script)
+                                  cwd=self.here, BROWSER=self.browser())
         self.addCleanup(window.close)
         said = window.read(r"Ctrl-C closes the office\.")
         links = re.findall(r"^(?:Finish|Jury|Scorer) +(\S+)$", said, re.MULTILINE)
         shown = re.findall(r"(?:\x1b\[97;40m[^\x1b]+\x1b\[0m\s+)+", said)
         self.assertEqual([test_web_qr.read(rows_of(one)) for one in shown], links)
         self.assertEqual(len(links), 3)
-        self.assertEqual(self.text("opened.txt").strip(), links[2])
+        opened = self.text("opened.txt").strip()
+        self.assertEqual((opened.rpartition(".")[0], opened in links), (links[2].rpartition(".")[0], False))
         window.press()
         window.rest()
 

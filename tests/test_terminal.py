@@ -13,7 +13,7 @@ from unittest import mock
 
 import helpers
 from raceoffice import characters
-from raceoffice.terminal import Progress, question, say_if_heard, visible, wrapped
+from raceoffice.terminal import question, say_if_heard, visible, wrapped
 
 
 class Prompt(unittest.TestCase):
@@ -145,19 +145,6 @@ class Shown(unittest.TestCase):
             self.assertTrue(characters.has_odd(f"Dragon{sign}"))
             self.assertEqual(characters.replaced(f"Dragon{sign}", lambda _: ""), "Dragon")
 
-    def test_progress(self) -> None:
-        """How far work is comes after two seconds, on a terminal alone, and goes at the end."""
-        for terminal, later, wanted in [(True, 2.1, "\rcup: R2 of 40\x1b[K\r\x1b[K"), (True, 1.9, ""),
-                                        (False, 60.0, "")]:
-            error = io.StringIO()
-            with mock.patch("sys.stderr", error), mock.patch("time.monotonic", return_value=0.0) as now, \
-                    mock.patch.object(error, "isatty", return_value=terminal):
-                progress = Progress("cup")
-                progress(1, 40)
-                now.return_value = later
-                progress(2, 40)
-                progress.end()
-            self.assertEqual(error.getvalue(), wanted)
 
 
 if __name__ == "__main__":

@@ -8,10 +8,11 @@ from unittest import mock
 
 import helpers
 from raceoffice.errors import NotSent
+from raceoffice.program.journal import Race
 from raceoffice.series.folder import Folder
 from raceoffice.series.kept_places import Note
 from raceoffice.series.unknown_finishers import Waiting
-from raceoffice.session.answers import outcome
+from raceoffice.session.answers import outcome, place_in
 from raceoffice.session.dialogue import ANSWER, Outcome, Said
 from raceoffice.session.facts import Facts
 from raceoffice.session.session import Session
@@ -236,6 +237,24 @@ OK 14   DEN16 is entered: 8 boats now. Her name comes from entries.csv: add her 
         facts = Facts(Folder(os.path.join(self.here, "cup")))
         self.assertEqual(outcome(facts, "ENTER GBR7", Waiting(), 9, "").text,
                          "OK 9   GBR 7 Sea Pink is entered: no boats now")
+
+    def test_given(self) -> None:
+        """Who is scored by redress isn't said to be scored by her code."""
+        trials: list[tuple[dict[str, str], str]] = [({"GBR7": "6.0"}, "held"), ({}, "coded")]
+        for given, what in trials:
+            race = Race(1, codes={"GBR7": "DNF"}, redress=given)
+            self.assertEqual(place_in(race, "GBR7", 0)[0], what)
+
+    def test_listed_meanwhile(self) -> None:
+        """A window calls boats as the entry list has them by now; one that can't be read leaves the names as they were."""
+        self.open()
+        window = self.client("cup", "--role", "finish")
+        window.say("at 1", "> $")
+        entries = self.text("cup", "entries.csv")
+        self.write(entries.replace("Sea Pink", "Thrift"), "cup", "entries.csv")
+        self.assertIn("7 is GBR 7 Thrift", window.say("7", "OK(?s:.*)> $"))
+        self.write("no list", "cup", "entries.csv")
+        self.assertIn("GBR 7 Thrift", window.say("race 1", "(?s:.*)> $"))
 
     def test_odd_races(self) -> None:
         """Lines that the program takes, and that the rules hardly mean."""

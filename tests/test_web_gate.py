@@ -272,7 +272,7 @@ class Attacks(unittest.TestCase):
         jury = self.device("jury")
         sizes = {(self.finish, "line/cup"): 16, (self.finish, "leave"): 16, (self.finish, "none"): 16, (self.finish, "in"): 4,
                  (self.finish, "list"): 16, (jury, "line/cup"): 16, (jury, "preview/cup"): 16, (jury, "decide/cup"): 256,
-                 (jury, "correct/cup"): 16, (self.scorer, "line/cup"): 16, (self.scorer, "key"): 16, (self.scorer, "in"): 4,
+                 (jury, "correct/cup"): 16, (self.scorer, "line/cup"): 256, (self.scorer, "key"): 16, (self.scorer, "in"): 4,
                  (self.scorer, "correct/cup"): 256, (self.scorer, "save/cup"): 256, (self.scorer, "list"): 5120}
         for (device, name), most in sizes.items():
             path = f"/office/{device.role}/{name}"
@@ -403,6 +403,19 @@ class Turns(unittest.IsolatedAsyncioTestCase):
             self.assertTrue((await reader.read()).startswith(b"HTTP/1.1 200"))
             writer.close()
         self.assertEqual(seen, ["/greedy"] * 5 + ["/other"] * 4)
+
+    async def test_gone(self) -> None:
+        """A connection that is given up while it waits for its turn takes none: those after it don't wait for it."""
+        host = Host(mock.AsyncMock(return_value=Reply()), lambda _: 0, self.fail)
+        host.turns = Rate(1, 1, lambda: 0.0)
+        await host.turn("Eve")
+        waiting = [asyncio.ensure_future(host.turn("Eve")) for _ in range(3)]
+        await asyncio.sleep(0)
+        self.assertEqual(host.turns.pause("Eve"), 4)
+        for one in waiting:
+            one.cancel()
+        await asyncio.gather(*waiting, return_exceptions=True)
+        self.assertEqual(host.turns.pause("Eve"), 2)
 
     async def test_device(self) -> None:
         """Strangers take no turns of a device that has their address, neither by what is answered nor by what isn't."""

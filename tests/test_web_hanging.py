@@ -13,6 +13,9 @@ from typing import Any
 
 import helpers
 from hanging_folder import Dead
+from raceoffice.series.folder import Folder
+from raceoffice.series.kept_places import history_of
+from raceoffice.side_by_side import PATIENCE
 from web_devices import Device, Web, new_id
 
 FLEET = "Sail,Boat\nGBR 33,Fulmar\nNED 80,Sterna\n"
@@ -102,6 +105,29 @@ class Served(Beside):
         self.dead.end()
         helpers.until("the class", lambda: self.offices(scorer)["dart"] == (True, False), SOON)
         self.assertEqual(self.tap(finish, "FINISH 1 NED80", "dart")[0], 200)
+
+    def test_a_finisher_of_both(self) -> None:
+        """Nor do those who are kept in both classes hold up the other: once that one answers, their places end there, too."""
+        window = self.client("cup", "dart", "--role", "finish")
+        for line in ("cup at 1", "dart at 1", "?"):
+            window.say(line, "> $")
+        self.dead.begin()
+        finish = self.device("finish")
+        self.assertEqual(self.tap(finish, "FINISH 1 GBR101")[0], 200)
+        self.assertEqual(self.tap(finish, "?1 1 GBR7")[0], 200)
+        begun = time.monotonic()
+        self.assertEqual(self.tap(finish, "FINISH 1 NED12")[0], 200)
+        self.assertLess(time.monotonic() - begun, PATIENCE)
+        self.dead.end()
+        self.assertEqual((self.kept("cup"), self.kept("dart")), ([], ["?1"]))
+        self.assertEqual(self.tap(finish, "FINISH 1 FRA9")[0], 200)
+        # Whoever looks before that folder's late answer has come leaves the class out once more.
+        helpers.until("the end of her place there", lambda: self.tap(finish, "FINISH 1 FRA9") and not self.kept("dart"), SOON)
+        self.assertEqual(self.kept("cup"), [])
+
+    def kept(self, name: str) -> list[str]:
+        """The places that a class keeps, as its files have them."""
+        return [unread.mark for unread in history_of(Folder(os.path.join(self.here, name))).waiting.all]
 
     def test_many_wait(self) -> None:
         """However many requests of a role wait for that class, those for others are answered."""

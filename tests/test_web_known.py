@@ -6,6 +6,7 @@ import http.client
 import json
 import os
 import shutil
+import signal
 import socket
 import tempfile
 import threading
@@ -18,7 +19,7 @@ from unittest import mock
 import helpers
 from on_water import OnWater
 from raceoffice.errors import NotSent, Trouble
-from raceoffice.web import gate as gates
+from raceoffice.web import gate as gates, serving
 from raceoffice.web.gate import Gate
 from raceoffice.web.kept_office import KeptOffice
 from raceoffice.web.requests import Reply, Request, Wrong
@@ -28,6 +29,40 @@ from web_devices import Device, Web, is_known, new_id
 
 # Seconds
 DAY = 86400.0
+
+
+class CtrlC(unittest.IsolatedAsyncioTestCase):
+    async def test_nobody_can_tell_who_writes(self) -> None:
+        """Ctrl-C closes the office also if it can't be told who may still write."""
+        web, end = serving.Web(serving.Asked((), 0, "", "", "", ())), asyncio.Event()
+        web.is_ready = True
+        with mock.patch.object(WebOffice, "writers", side_effect=OSError):
+            web.stop(end, signal.SIGINT)
+            await asyncio.wait_for(end.wait(), 5.0)
+
+
+class Shown(Web):
+    words = ("cup", "--browser")
+
+    def prepare(self) -> None:
+        """Has a browser that stays until `done` is there, and writes the address that it is started with."""
+        self.write(f'#!/bin/sh\necho "$1" > {self.here}/opened.txt\nuntil [ -e {self.here}/done ]; do sleep 0.1; done\n', "browser")
+        os.chmod(script := os.path.join(self.here, "browser"), 0o700)
+        patch = mock.patch.dict(os.environ, {"BROWSER": script})
+        patch.start()
+        self.addCleanup(patch.stop)
+        self.addCleanup(self.write, "", "done")
+
+    def test_link_for_one(self) -> None:
+        """The link that a browser of this computer is started with, which its other accounts may see, lets in one device, and
+        that of the terminal all. While that browser is there, others are answered."""
+        link = self.text("opened.txt").strip()
+        self.assertIn("/office/in#scorer.", link)
+        self.assertNotIn(link, self.said())
+        scorer = Device(self.port, "scorer").come(link, "Sue")
+        key = link.partition("#scorer.")[2]
+        self.assertEqual(Device(self.port, "scorer").ask("POST", "/office/in", {"role": "scorer", "key": key, "name": "Eve"})[0], 403)
+        self.assertEqual([is_known(scorer), is_known(self.device("scorer"))], [True, True])
 
 
 class Again(Web):

@@ -65,6 +65,23 @@ class Lists(unittest.TestCase):
         for none in (-1, 3, 99):
             self.assertFalse(mended(other, none).is_sail_known)
 
+    def test_no_headings(self) -> None:
+        """Where a list has no headings, no boat is taken for one: she would be left out."""
+        for data, row in ((b"GBR 7;Sea Pink\nGBR 33;Turnstone\n", 1), (b"Autumn Cup\nGBR 7;Sea Pink\nGBR 33;Turnstone\n", 2)):
+            found = mended(data, 0)
+            self.assertEqual((found.wrong, found.boats), ([f"The list, row {row}: GBR 7 stands where the headings have to be. Put a row above "
+                                                           "it with what is in each column, as Sail, Boat and Helm."], []))
+
+    def test_headings_with_digits(self) -> None:
+        """Headings that might be sails are headings all the same beside two others that are known, and where a spreadsheet has
+        numbered the columns: somebody who was told to put a row above would have one as a boat."""
+        for data in (b"Nr 2026,Boat,Helm\nGBR 7,Sea Pink,Ann\nGBR 33,Turnstone,Bob\n", b"Spalte1;Spalte2\nGBR 7;Sea Pink\nGBR 33;Turnstone\n",
+                     b"1,2,3\nGBR 7,Sea Pink,Ann\nGBR 33,Turnstone,Bob\n"):
+            found = mended(data, 0)
+            self.assertEqual(([boat.sail for boat in found.boats], found.wrong), (["GBR 7", "GBR 33"], []))
+        for data in (b"1,Sea Pink\n2,Turnstone\n", b"GBR/7,Sea Pink\nGBR 33,Turnstone\n"):
+            self.assertEqual(len(mended(data, 0).wrong), 1)
+
     def test_wrong(self) -> None:
         """What keeps a list from being used is said with its row."""
         for data, wanted in [(b"", "The list is empty."), (b"PK\x03\x04", "is a spreadsheet, not CSV"),

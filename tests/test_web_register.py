@@ -42,6 +42,25 @@ class Damaged(unittest.TestCase):
             register.end(id, "NOTED", mark)
         self.assertEqual([register.places_by(name, 1) for name in ("Ann", "Bob")], [{"?1"}, {"?2"}])
 
+    def test_refused(self) -> None:
+        """What a tap costs doesn't grow by all that was ever refused, now or before the register was opened again; what has
+        changed a sheet all the same counts."""
+        register, wanted = Register(self.path), list[str]()
+        for at, answer in enumerate(("OK 1", "NO 8", "NO 9", "NOTED", "NO")):
+            wanted.append(new_id())
+            register.begin(Sent(wanted[-1], "FINISH", "FINISH 1 GBR7", at, "Ann", 1, 9, made={"finish": "1"} if at == 2 else {}))
+            self.assertEqual(register.all()[-1].id, wanted[-1])
+            register.end(wanted[-1], answer)
+        register.refuse(Sent(new_id(), "FINISH", "FINISH 1 GBR7", 6, "Bob", 1))
+        for again in range(2):
+            self.assertEqual([sent.id for sent in register.all()], [wanted[at] for at in (0, 2, 3)])
+            self.assertEqual([sent.id for sent in register.all_reversed()], [wanted[at] for at in (3, 2, 0)])
+            self.assertEqual(register.who_tapped_too(register.sent[wanted[0]]), "Bob")
+            self.assertFalse(register.has_place(Sent(new_id(), "FINISH", "? 1", 7, "Ann", 1, 9, "NO", "?1"), History()))
+            register.close()
+            register = Register(self.path)
+        register.close()
+
     def test_each_bit(self) -> None:
         """Whichever bit of the register rots, the others of its taps are known, and nothing goes wrong."""
         journal, ids = ["1 1 SCORER ENTER GBR7", "1 2 FINISH FINISH 1 GBR7"], [new_id(), new_id()]
@@ -181,6 +200,7 @@ class Renumbered(unittest.TestCase):
         sys.setswitchinterval(1e-6)
         for number, read in enumerate(reads):
             register.sent = {sent.id: sent for sent in (finish, kept)}
+            register.not_refused = dict(register.sent)
             thread = threading.Thread(target=note)
             thread.start()
             with self.subTest(number):

@@ -276,6 +276,31 @@ class Declared(Results):
         self.assertEqual(helpers.run("final", "cup", cwd=self.here)[1], 0)
         self.assertFalse(self.shown()["is_changed"])
 
+    def test_declared_is_asked(self) -> None:
+        """Once results are declared, a further race that counts, one that doesn't any more, and a boat that is entered are asked
+        about first, as each correction is."""
+        self.sail()
+        for sail in SAILS:
+            self.finish.tap(f"FINISH 2 {sail}")
+        self.assertEqual(self.declared("final")[0], 200)
+        for line, more in (("SCORE 2", ""), ("UNSCORE 1", "unscore"), ("ENTER USA 4", "enter-unlisted")):
+            agreed = list[Any]()
+            for kind in filter(None, ("declared", more)):
+                status, said = self.scorer.tap(line, agreed=agreed)
+                self.assertEqual((status, said["question"]["kind"]), (409, kind), line)
+                agreed.append(said["question"])
+            self.assertEqual(agreed[0]["values"], {"declared": "final"})
+            self.assertEqual(agreed[0]["text"], "THE RESULTS ARE FINAL. Is this a correction?")
+            self.assertEqual(self.scorer.tap(line, agreed=agreed)[1]["outcome"], "taken")
+        status, said = self.scorer.tap("ABANDON 2")
+        self.assertEqual((status, said["question"]["kind"]), (409, "declared"))
+        status, said = self.scorer.tap("ABANDON 2", agreed=[said["question"]])
+        self.assertEqual((status, said["question"]["kind"]), (409, "abandon"))
+        self.assertEqual(self.scorer.tap("ABANDON 3")[0], 200)
+        self.assertEqual(self.declared("amended", reason="Race 1 was a practice race")[0], 200)
+        status, said = self.scorer.tap("SCORE 1")
+        self.assertEqual((status, said["question"]["text"]), (409, "THE RESULTS HAVE BEEN AMENDED. Is this a correction?"))
+
     def board(self) -> str:
         return str(self.scorer.again().ask("GET", "/cup/")[1])
 

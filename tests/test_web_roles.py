@@ -256,6 +256,36 @@ class Offices(Web):
         said, status = window.rest()
         self.assertEqual(status, 0, said)
 
+    def test_window_asks(self) -> None:
+        """A window that keeps the office asks before it closes that, as long as devices may write by a web that has joined it."""
+        self.close()
+        window = self.open()
+        self.serve()
+        finish = self.device("finish")
+        self.assertEqual(finish.tap("FINISH 1 GBR101")[1]["outcome"], "taken")
+        shown = os.path.join(self.here, "cup", "office", "windows", f"{self.web.pid}web")
+        helpers.until("what is shown of devices", lambda: os.path.exists(shown))
+        window.press()
+        self.assertRegex(window.read(r"\[y/N\] $"), "1 window is still open: devices in browsers since [0-9:]+\\.")
+        window.type("n")
+        window.read("The office stays open")
+        self.assertEqual(finish.tap("FINISH 1 GBR7")[1]["outcome"], "taken")
+        self.assertEqual(finish.ask("POST", "/office/finish/leave", {})[0], 200)
+        helpers.until("that no device is there", lambda: not os.path.exists(shown))
+        window.press()
+        said, status = window.rest()
+        self.assertEqual(status, 0, said)
+
+    def test_interrupted_while_a_window_types(self) -> None:
+        """Ctrl-C in its window closes no office while somebody types in another; a second one does."""
+        window = self.window("type", "cup", "--role", "finish", "--name", "Ben")
+        window.read("> $")
+        self.web.send_signal(signal.SIGINT)
+        helpers.until("who may still write", lambda: re.search("These may still write: Ben since [0-9:]+\\.", self.said()))
+        self.assertIsNone(self.web.poll())
+        self.web.send_signal(signal.SIGINT)
+        self.assertEqual(self.web.wait(helpers.PATIENCE), 0)
+
     def test_interrupted(self) -> None:
         """Ctrl-C that was meant to copy a link closes nothing while a device may write; a second one does."""
         finish = self.device("finish")

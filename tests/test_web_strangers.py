@@ -10,8 +10,10 @@ import logging
 import socket
 import ssl
 import threading
+import tracemalloc
 import unittest
 from collections.abc import Callable
+from typing import Any
 from unittest import mock
 
 import helpers
@@ -21,12 +23,24 @@ from raceoffice.web.gate import DEVICES, QUIET, ROLES, Device, Gate, plain_name
 from raceoffice.web.hosting import PIECE, TOGETHER, Host
 from raceoffice.web.page_news import PageNews
 from raceoffice.web.rates import Rate
-from raceoffice.web.requests import Reply, Request, Wrong
+from raceoffice.web.requests import HEAD, Reply, Request, Wrong, packed
 from raceoffice.web.routes import Routes
 from raceoffice.web.web_office import WebOffice
 from web_devices import Web
 
 GET = b"GET / HTTP/1.1\r\n\r\n"
+
+
+class Packed(unittest.TestCase):
+    def test_long_states(self) -> None:
+        """Of long states, each of which many ask for, a few stay in memory, however many taps there were."""
+        request = Request("GET", "/", {"accept-encoding": "gzip"}, "127.0.0.1")
+        tracemalloc.start()
+        self.addCleanup(tracemalloc.stop)
+        for number in range(40):
+            state = Reply(data=str(number).encode().ljust(1 << 20))
+            self.assertIs(packed(request, state).data, packed(request, state).data)
+        self.assertLess(tracemalloc.get_traced_memory()[0], 16 << 20)
 
 
 class Connections(unittest.IsolatedAsyncioTestCase):
@@ -93,6 +107,29 @@ class Connections(unittest.IsolatedAsyncioTestCase):
             await self.until(lambda: writers)
             await asyncio.sleep(0.1)
         self.assertLessEqual(writers[-1].transport.get_write_buffer_size(), 3 * PIECE)
+
+    async def test_much_sent_in_advance(self) -> None:
+        """Of a client that has sent much before its first request is answered a few heads are held, however much came at once."""
+        readers, asked, streams_of = list[asyncio.StreamReader](), asyncio.Event(), hosting.streams_of
+
+        async def noted(*values: Any) -> tuple[asyncio.StreamReader, asyncio.StreamWriter]:
+            found = await streams_of(*values)
+            readers.append(found[0])
+            return found
+
+        async def never(_: Request) -> Reply:
+            asked.set()
+            await asyncio.sleep(helpers.PATIENCE)
+            return Reply()
+
+        self.host.answer = never
+        await self.host.start(*self.door, None)
+        with mock.patch.object(hosting, "streams_of", noted), socket.create_connection(self.door) as link:
+            link.setblocking(False)
+            self.assertGreater(link.send(GET * (16 * HEAD // len(GET))), 4 * HEAD)
+            await asyncio.wait_for(asked.wait(), helpers.PATIENCE)
+            await asyncio.sleep(0.1)
+            self.assertLessEqual(len(readers[0]._buffer), 3 * HEAD)  # type: ignore[attr-defined]
 
     async def come(self, text: bytes) -> asyncio.StreamReader:
         """What comes over one more connection of an address that may have four."""
@@ -163,6 +200,15 @@ class Connections(unittest.IsolatedAsyncioTestCase):
         readers = [await self.come(text) for text in (b"", eve, eve, eve, b"", b"")]
         await self.until(lambda: [at for at, reader in enumerate(readers) if reader.at_eof()] == [0, 1])
         await self.ask(readers[4], self.links[4], ann)
+
+    @mock.patch.object(hosting, "YOUNG", helpers.PATIENCE)
+    @mock.patch.object(hosting, "FEW", 1)
+    async def test_more_than_strangers(self) -> None:
+        """A device that has many, and more than all strangers, gives one up before a stranger does."""
+        await self.room_for_four()
+        eve = b"GET / HTTP/1.1\r\nCookie: Eve\r\n\r\n"
+        readers = [await self.come(text) for text in (GET, eve, eve, eve, GET, GET)]
+        await self.until(lambda: [at for at, reader in enumerate(readers) if reader.at_eof()] == [0, 1])
 
     async def test_given_up_at_its_end(self) -> None:
         """A connection that is given up while it ends has left its socket: the next one that has its number is heard."""

@@ -2,6 +2,7 @@
 program of times computes."""
 from __future__ import annotations
 
+import contextlib
 import datetime
 import os
 import unittest
@@ -11,9 +12,14 @@ from unittest import mock
 import helpers
 from raceoffice.corrected.write_sheet import SheetOfRace
 from raceoffice.errors import NotSent, Trouble
+from raceoffice.program.journal import Series
+from raceoffice.program.link import Link
 from raceoffice.series import settings
 from raceoffice.series.folder import Folder
 from raceoffice.series.race_sheets import take_out_of_sheets
+from raceoffice.web.room import Room
+from raceoffice.web.tap_session import TapSession
+from raceoffice.web.taps import Tap, last_numbers
 from raceoffice.web.timed_taps import TimedTap
 from web_devices import Device, Web, new_id
 
@@ -26,15 +32,20 @@ def moment(clock: str) -> int:
     return int(found.timestamp() * 1000) + 700
 
 
+def prepare(series: helpers.Series) -> None:
+    """Makes the class one by corrected time."""
+    series.write(ENTRIES, "cup", "entries.csv")
+    series.write(settings.filled_in({"title": "Autumn Cup", "program": helpers.PROGRAM, "zone": "UTC",
+                                     "handicap": "yes"}), "cup", "series.ini")
+    os.mkdir(os.path.join(series.here, "cup", "times"))
+    series.write(f"[times]\nsystem = tcf\nprogram = {helpers.TIMES}\n", "cup", "times", "rules.ini")
+
+
 class Prepared(Web):
     """The web over a class by corrected time."""
 
     def prepare(self) -> None:
-        self.write(ENTRIES, "cup", "entries.csv")
-        self.write(settings.filled_in({"title": "Autumn Cup", "program": helpers.PROGRAM, "zone": "UTC",
-                                       "handicap": "yes"}), "cup", "series.ini")
-        os.mkdir(os.path.join(self.here, "cup", "times"))
-        self.write(f"[times]\nsystem = tcf\nprogram = {helpers.TIMES}\n", "cup", "times", "rules.ini")
+        prepare(self)
 
 
 @helpers.needs_times
@@ -280,6 +291,46 @@ class Timed(Prepared):
 
         self.check_columns(scorer)
 
+    def test_laps_in_another_order(self) -> None:
+        """Boats that finished before there was a start are in the sheet as they came. On the page an empty start or number of laps
+        is as that of the boat above there: 3,600 s x 3/2, 4,200, 3,000 and 3,900 s. What is changed of one boat is changed of no
+        other: 4,200 s x 3/2."""
+        self.write(ENTRIES.replace("TCF", "PY").replace("1.000", "1000").replace("0.900", "1000").replace("1.250", "1000").replace("0.8", "1000"),
+                   "cup", "entries.csv")
+        self.write(f"[times]\nsystem = py\nprogram = {helpers.TIMES}\n", "cup", "times", "rules.ini")
+        ann, scorer, path = self.device("finish"), self.device("scorer"), "/office/scorer/sheet/cup"
+        for sail, clock in (("NED12", "14:50:00"), ("GBR101", "15:00:00"), ("FRA9", "15:05:00"), ("GBR7", "15:10:00")):
+            self.finish(ann, sail, clock)
+        rows: list[dict[str, dict[str, str]]] = [{"GBR101": {"start": "14:00:00", "laps": "2"}, "GBR7": {"laps": "3"}}, {"GBR7": {"laps": "2"}}]
+        wanted = [["SCORER TIME 1 FRA9 3900", "SCORER TIME 1 GBR101 5400", "SCORER TIME 1 GBR7 4200", "SCORER TIME 1 NED12 3000"],
+                  ["SCORER STRIKE 1 GBR7", "SCORER TIME 1 GBR7 6300"]]
+        for given, lines in zip(rows, wanted):
+            before = self.journal()
+            shown = self.times_sheet(scorer)
+            self.assertEqual([row["sail"] for row in shown["rows"]], ["GBR101", "GBR7", "NED12", "FRA9"])
+            # An answer may be lost: then the same comes again.
+            self.assertEqual([scorer.ask("POST", path, {"race": 1, "rows": given, "tag": shown["tag"]})[0] for _ in range(2)], [200, 200])
+            self.assertEqual(scorer.tap("TIMES 1")[1]["outcome"], "taken")
+            self.assertEqual(sorted(self.journal()[len(before):]), lines)
+
+    def test_laps_of_a_boat_with_a_code(self) -> None:
+        """What a boat with a code has as laps, nobody below her on the page comes to have by it, and the sheet can be read:
+        3,900 s x 1000/800 and 4,200 s x 1000/900."""
+        self.write(ENTRIES.replace("TCF", "PY").replace("1.000", "1000").replace("0.900", "900").replace("1.250", "1250").replace("0.8", "800"),
+                   "cup", "entries.csv")
+        self.write(f"[times]\nsystem = py\nprogram = {helpers.TIMES}\n", "cup", "times", "rules.ini")
+        scorer = self.device("scorer")
+        helpers.until("the boats", lambda: len(scorer.state()["boats"]) == 4)
+        for race, laps in ((1, "0"), (2, "1")):
+            self.write(f"Sail,Start,Finish,Code,Laps\nFRA9,14:00:00,15:05:00,,\nGBR7,,15:10:00,,\nGBR101,,,DNF,{laps}\n",
+                       "cup", "times", f"race-{race}.csv")
+            before, tag = self.journal(), scorer.ask("GET", f"/office/scorer/sheet/cup/{race}")[1]["tag"]
+            status, saved = scorer.ask("POST", "/office/scorer/sheet/cup", {"race": race, "rows": {"NED12": {"start": "14:10"}}, "tag": tag})
+            self.assertEqual((status, saved["wrong"]), (200, []))
+            self.assertEqual(scorer.tap(f"TIMES {race}")[1]["outcome"], "taken")
+            self.assertEqual(sorted(self.journal()[len(before):]), [
+                f"SCORER MARK {race} GBR101 DNF", f"SCORER TIME {race} FRA9 4875", f"SCORER TIME {race} GBR7 4667"])
+
     def check_columns(self, scorer: Device) -> None:
         """Portsmouth Yardstick takes laps, and time on distance miles; a column that is missing is added."""
         path = "/office/scorer/sheet/cup"
@@ -470,6 +521,73 @@ class Timed(Prepared):
             self.assertEqual(said["outcome"], "noted", said)
             self.assertEqual([one["values"]["sail"] for one in said["said"] if one["what"] == "row-left-out"], wanted)
         self.assertEqual(len(self.journal()), 1)
+
+
+@helpers.needs_times
+class Followed(helpers.Series):
+    """Taps of several lines, each of which is followed."""
+
+    def setUp(self) -> None:
+        super().setUp()
+        prepare(self)
+        self.open()
+        self.folder = Folder(os.path.join(self.here, "cup"))
+        self.room = Room(self.folder, lambda: None)
+        self.addCleanup(self.room.close)
+        for at, sail in enumerate(("GBR101", "GBR7", "NED12", "FRA9")):
+            self.do(f"FINISH 1 {sail}", at=moment(f"15:0{at}:00"))
+        self.do("START 1 14:00:00")
+
+    def do(self, line: str, name: str = "Ann", **more: Any) -> Any:
+        return self.room.do("FINISH", name, Tap.read({"id": new_id(), "line": line, **more}))
+
+    def start(self, clock: str) -> Any:
+        """What came of another start of race 1."""
+        row = SheetOfRace(self.folder, 1).starts[0]
+        since = {"kind": "start-since", "values": {"race": 1, "start": row, "written": clock}}
+        return self.do(f"START 1 {clock}", agreed=[since])
+
+    def test_read_once(self) -> None:
+        """The journal is read once for all lines of a start; of each boat is said how she is after her last one."""
+        with mock.patch.object(Link, "sheet", autospec=True, side_effect=Link.sheet) as read:
+            said = self.start("14:01:00")["said"]
+        self.assertEqual((read.call_count, len(self.room.facts.sheet.journal)), (1, 16))
+        self.assertEqual([(one["what"], one["values"]["place"], one["values"]["finished"]) for one in said],
+                         [("finished", place, 4) for place in (3, 2, 4, 1)])
+
+    def test_followed(self) -> None:
+        """After each line the journal is known as the office has it, and so is what the next one is noted with; also if
+        somebody else sends a line in between."""
+        own, ask, followed = TapSession.is_own_followed, Link.ask, list[bool]()
+
+        def compared(session: TapSession) -> bool:
+            if is_own := own(session):
+                journal = session.office().sheet().journal
+                self.assertEqual((session.facts.sheet.journal, session.facts.series), (journal, Series.read(list(journal))))
+            followed.append(is_own)
+            return is_own
+
+        def beside(link: Link, line: str) -> str:
+            if line == "STRIKE 1 NED12":
+                with contextlib.closing(self.folder.link()) as other:
+                    self.assertEqual([ask(other, typed)[:2] for typed in ("ROLE SCORER", "PENALTY 1 GBR7 ZFP")], ["RO", "OK"])
+            return ask(link, line)
+        with mock.patch.object(TapSession, "is_own_followed", compared), mock.patch.object(Link, "ask", beside):
+            id = self.start("14:01:00") and list(self.room.register.sent)[-1].partition("/")[0]
+        self.assertEqual(followed, [True] * 4 + [False] + [True] * 3)
+        journal = self.room.facts.sheet.journal
+        parts = self.room.register.parts(id)
+        self.assertEqual([part.own for part in parts], [line for line in journal[8:] if "PENALTY" not in line])
+        for part in parts:
+            self.assertEqual(part.numbers, last_numbers(journal[:part.entries]))
+            self.assertEqual(part.entry - part.entries, 2 if part.line == "STRIKE 1 NED12" else 1)
+
+    def test_tapped_too_is_noted_once(self) -> None:
+        """However often a device taps a boat who has another finish, the register notes once that it did."""
+        for _ in range(3):
+            with self.assertRaises(NotSent):
+                self.do("FINISH 1 GBR7", "Bob", at=moment("15:09:00"))
+        self.assertEqual(sum(id.endswith("/too") for id in self.room.register.sent), 1)
 
 
 class Lines(unittest.TestCase):

@@ -1,9 +1,12 @@
 """The windows of those who type when an office goes, comes back, or has no seat."""
 from __future__ import annotations
 
+import ctypes
+import functools
 import os
 import signal
 import socket
+import sys
 import threading
 import unittest
 from unittest import mock
@@ -11,9 +14,11 @@ from unittest import mock
 import helpers
 from raceoffice.errors import Trouble
 from raceoffice.series.folder import Folder
+from raceoffice.session.dialogue import Question
 from raceoffice.session.session import Session
 from raceoffice.typing_window.lines_back import LinesBack as LinesBackFound, lines_back
 from raceoffice.typing_window.watcher import News, Watcher
+from raceoffice.typing_window.window import Window
 
 
 # How long an answer may take, for a trial that waits for none.
@@ -239,6 +244,61 @@ class Watching(helpers.Series):
                 mock.patch("builtins.input", return_value="101"):
             self.assertEqual(Watcher([]).ask("> "), "101")
 
+    def test_ctrl_c(self) -> None:
+        """Ctrl-C ends no window, also as the one before is answered. The line that it may have cost is named once."""
+        said: list[str] = []
+        window = Window([Folder(os.path.join(self.here, "cup"))], "FINISH", "")
+        window.under_way = "101"
+        with mock.patch.object(window, "is_going_on", side_effect=[KeyboardInterrupt, KeyboardInterrupt, False]), \
+                mock.patch.object(window, "say_kept", side_effect=[KeyboardInterrupt, None, None]), \
+                mock.patch("raceoffice.typing_window.window.say", said.append):
+            window.stay()
+        quits = "   Type quit to leave."
+        self.assertEqual(said, ["   Interrupted. Look whether this line is in the journal, or a place kept: 101", *[quits] * 3])
+
+    def test_ctrl_c_twice(self) -> None:
+        """A second one before the first is answered is none, nor is one that readline would swallow as the line begins: the
+        next is heard. After a question, which it answers by no, it is heard again."""
+        window, here = Window([Folder(os.path.join(self.here, "cup"))], "FINISH", ""), sys._getframe()
+        window.is_doing = True
+        with mock.patch("raceoffice.typing_window.watcher.readline") as readline:
+            readline.insert_text.side_effect = lambda _: window.hear(signal.SIGINT, sys._getframe())
+            window.watcher.begin()
+        self.assertRaises(KeyboardInterrupt, window.hear, signal.SIGINT, here)
+        window.hear(signal.SIGINT, here)
+        with mock.patch("raceoffice.typing_window.window.question", return_value=False):
+            self.assertFalse(window.ask(Question("kind", {}, "Send it?")))
+        self.assertRaises(KeyboardInterrupt, window.hear, signal.SIGINT, here)
+
+    def test_two_signals(self) -> None:
+        """Python makes a fault of Ctrl-C, or of news, that comes with another signal while it asks for the line."""
+        for came in (KeyboardInterrupt, News):
+            both = SystemError("a result with an exception set")
+            both.__cause__ = came()
+            with mock.patch("builtins.input", side_effect=both):
+                self.assertRaises(came, Watcher([]).ask, "> ")
+
+    def test_ctrl_c_as_an_office_is_back(self) -> None:
+        """Which lines are lost is said again if Ctrl-C comes before all is said."""
+        said: list[str] = []
+        window = Window([Folder(os.path.join(self.here, "cup"))], "JURY", "")
+        session, (link, other) = window.sessions[0], socket.socketpair()
+        self.addCleanup(link.close)
+        self.addCleanup(other.close)
+        session.link, session.sent = mock.Mock(fileno=link.fileno), {1: "FINISH 1 GBR101", 2: "FINISH 1 GBR7"}
+        session.facts = mock.Mock(commands=["FINISH 1 GBR101"])
+        window.taken_out[session], window.known[session] = [], []
+        presses = [KeyboardInterrupt]
+
+        def say(text: str) -> None:
+            if "are lost" in text and presses:
+                raise presses.pop()
+            said.append(text)
+        with mock.patch.object(window, "is_going_on", side_effect=[KeyboardInterrupt, False]), \
+                mock.patch.object(window, "say_kept"), mock.patch("raceoffice.typing_window.window.say", say):
+            window.stay()
+        self.assertEqual((said[-1], session.sent, window.known), ("       2  FINISH 1 GBR7", {1: "FINISH 1 GBR101"}, {}))
+
     def test_late_signal(self) -> None:
         """A signal that was meant for one prompt doesn't interrupt the next, nor what comes between."""
         watcher = Watcher([])
@@ -251,6 +311,28 @@ class Watching(helpers.Series):
         self.assertRaises(News, watcher.interrupt)
         self.assertFalse(watcher.at_prompt)
 
+    def test_signal_at_the_enter(self) -> None:
+        """A line whose Enter was taken as the signal came isn't lost."""
+        watcher = Watcher([])
+        watcher.interrupted = 1
+        # C alone, as readline: Python learns of the signal when there is a line. It is the 0 of raise(3).
+        line = functools.partial(ctypes.CDLL(None)["raise"], signal.SIGUSR1.value)
+        with mock.patch("builtins.input", line):
+            self.assertEqual(watcher.ask("> "), 0)
+        self.assertEqual((watcher.half, watcher.at_prompt), ("", False))
+
+    def test_signal_as_the_line_begins(self) -> None:
+        """What is left of the line before is at one prompt, also if it is interrupted as it begins."""
+        watcher = Watcher([])
+        watcher.prompts = watcher.interrupted = 1
+        watcher.half, watcher.at_prompt = "10", True
+        with mock.patch("raceoffice.typing_window.watcher.readline") as readline:
+            readline.insert_text.side_effect = lambda _: watcher.interrupt()
+            watcher.begin()
+            readline.insert_text.assert_called_once_with("10")
+            readline.get_line_buffer.return_value = "101"
+            self.assertRaises(News, watcher.interrupt)
+        self.assertEqual(watcher.half, "101")
 
     def test_fault(self) -> None:
         """A fault of the package in a look leaves its trace and is said once, and the looks go on."""

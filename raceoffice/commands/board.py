@@ -20,27 +20,35 @@ from __future__ import annotations
 
 import argparse
 import functools
+import os
 import shutil
 import signal
 import subprocess
 import sys
 import time
+from collections.abc import Callable
+from typing import Optional
 
 from raceoffice import system
 from raceoffice.errors import Trouble
 from raceoffice.exit_status import status_of
+from raceoffice.remarks import remark
 from raceoffice.results.http_answers import Board, addresses
 from raceoffice.results.publish import Files, Site, served
 from raceoffice.results.server import Listener
 from raceoffice.results.source import ResultsSource, need_own_names
 from raceoffice.series.folder import clock
 from raceoffice.series.settings import is_address, is_between
+from raceoffice.side_by_side import SideBySide
 from raceoffice.terminal import Once, say, say_if_heard, say_what_waits, sentence
 from raceoffice.traces import WRITTEN, guarded, written
 from raceoffice.wording import count
 
 # Seconds between two looks at whether an office is being closed: then the board leaves it.
 TICK = 0.5
+# Seconds that a series has for a look, or its files to be written, before the others go on without it, and after which it
+# doesn't answer; and those that each has if all is written once.
+PATIENCE, AWAY, LONG = 3.0, 10.0, 60.0
 # Seconds that a terminal has to take what is said last.
 LAST = 2.0
 
@@ -52,6 +60,9 @@ class Shown:
                  is_once: bool = False) -> None:
         self.sources, self.files, self.board, self.is_once = sources, files, board, is_once
         self.site = Site(sources)
+        # A series whose folder hangs, as on a drive that died, holds up no other, nor do its files.
+        patience, self.away = (LONG, 0.0) if is_once else (PATIENCE, AWAY)
+        self.looks, self.writes = SideBySide[Optional[str]](patience), SideBySide[str](patience)
         self.width = max(len(source.name) for source in sources)
         self.once = Once()
 
@@ -64,12 +75,19 @@ class Shown:
             else:
                 say(text)
 
-    def look(self, due: list[ResultsSource], stamp: str = "") -> bool:
-        """Looks at some series, shows what was found and then says what has changed; whether all
+    def look(self, stamp: str = "") -> bool:
+        """Looks at the series whose time has come, shows what was found and then says what has changed; whether all
         went well."""
-        troubles = [trouble_of(source) for source in due]
-        well = self.publish() and not any(troubles)
-        for source, trouble in zip(due, troubles):
+        asked = {source.folder.name: functools.partial(looked_at, source) for source in self.sources}
+        fresh = self.looks.answers(asked)
+        # What comes late is of a look whose time had come.
+        found = fresh | self.looks.late_answers()
+        troubles = {source: self.trouble_now(source, found.get(source.folder.name)) for source in self.sources}
+        looked = {source: trouble for source, trouble in troubles.items() if trouble is not None}
+        if not looked:
+            return True
+        well = self.publish() and not any(looked.values())
+        for source, trouble in looked.items():
             said = said_of(source, trouble, self.width, bool(stamp), self.is_once)
             self.tell(source.folder.name, said, stamp)
             for about, text in source.notes.items():
@@ -77,15 +95,22 @@ class Shown:
                           f"{source.name}: {sentence(text)}", stamp)
         return well
 
+    def trouble_now(self, source: ResultsSource, found: str | None) -> str | None:
+        """Why the page of a series stays as it was, or nothing; None if its time hasn't come. The office of a folder that
+        doesn't answer is away."""
+        if not self.looks.is_late(source.folder.name, self.away):
+            return found
+        source.office = "away"
+        return sentence(remark("folder-silent", path=source.folder.path))
+
     def publish(self) -> bool:
         """Shows what was found, to phones and in files; whether all files were written."""
-        wrong = []
-        for show in [self.put, *(files.write for files in self.files)]:
-            try:
-                with guarded(self.sources[0].folder.path):
-                    show()
-            except Trouble as trouble:
-                wrong.append(sentence(trouble))
+        shows = [self.put, *(files.write for files in self.files)]
+        asked = {str(at): functools.partial(shown, self.sources[0].folder.path, show) for at, show in enumerate(shows)}
+        late = self.writes.late_answers()
+        wrong = [text for text in [*late.values(), *self.writes.answers(asked).values()] if text]
+        wrong += [sentence(remark("folder-silent", path=files.folder)) for at, files in enumerate(self.files, 1)
+                  if self.writes.is_late(str(at), self.away)]
         self.tell("files", f"Not all pages were written: {' '.join(wrong)}" if wrong else "", f"{clock()} ")
         return not wrong
 
@@ -94,18 +119,10 @@ class Shown:
         if self.board is not None:
             self.board.put(served(self.site.texts()))
 
-    def round(self) -> None:
-        """Looks at the series whose time has come."""
-        for source in self.sources:
-            if source.folder.is_closing():
-                source.leave()
-        due = [source for source in self.sources if time.monotonic() >= source.due]
-        if due:
-            self.look(due, f"{clock()} ")
-
     def leave(self) -> None:
-        for source in self.sources:
-            source.leave()
+        """Leaves the offices. None is waited for whose folder hangs."""
+        SideBySide[None]().answers({source.folder.name: source.leave for source in self.sources
+                                    if not self.looks.is_late(source.folder.name)})
 
 
 def note(folder: str, trace: str) -> None:
@@ -114,6 +131,23 @@ def note(folder: str, trace: str) -> None:
         path = written(folder, trace)
         where = f"Its trace is in {path}." if path else "Its trace couldn't be written."
         say_if_heard(f"{clock()} Beware: a phone wasn't answered, by a fault of raceoffice. {where}")
+
+
+def shown(folder: str, show: Callable[[], None]) -> str:
+    """Shows what was found; what is wrong, or nothing. A fault leaves its trace in the folder."""
+    try:
+        with guarded(folder):
+            show()
+    except Trouble as trouble:
+        return sentence(trouble)
+    return ""
+
+
+def looked_at(source: ResultsSource) -> str | None:
+    """Leaves an office that is being closed, and looks at a series if its time has come; as of `trouble_of`, or None."""
+    if source.folder.is_closing():
+        source.leave()
+    return trouble_of(source) if time.monotonic() >= source.due else None
 
 
 def trouble_of(source: ResultsSource) -> str:
@@ -136,8 +170,9 @@ def said_of(source: ResultsSource, trouble: str, width: int, is_later: bool, is_
         after = " The page says so in red." if red else "" if view else " There is no page yet."
         return f"{name}{trouble}{after}"
     often = "once" if is_once else f"every {count(source.settings.every, 'second')}"
-    where = {"open": f"from the office, {often}",
-             "journal": "from journal.txt, no office is open"}[source.office]
+    # A look that has come late may have ended just as its folder was given up.
+    where = {"open": f"from the office, {often}", "journal": "from journal.txt, no office is open",
+             "away": "the office is away"}[source.office]
     if is_later:
         return f"{name}{where}."
     assert view is not None
@@ -189,11 +224,15 @@ def sources_of(folders: list[str]) -> list[ResultsSource]:
 
 
 def files_of(asked: argparse.Namespace, sources: list[ResultsSource]) -> list[Files]:
-    """Where pages are written: one folder for all, or that which each series.ini names."""
+    """Where pages are written: one folder for all, or that which each series.ini names. Several may name one: its first page
+    is their list."""
     if asked.page:
         return [Files(asked.page, Site(sources, asked.once))]
-    return [Files(source.folder.file(source.settings.page), Site([source], asked.once))
-            for source in sources if source.settings.page]
+    found: dict[str, list[ResultsSource]] = {}
+    for source in sources:
+        if source.settings.page:
+            found.setdefault(os.path.abspath(source.folder.file(source.settings.page)), []).append(source)
+    return [Files(folder, Site(several, asked.once)) for folder, several in found.items()]
 
 
 def say_address(own: str, number: int) -> None:
@@ -219,9 +258,9 @@ def show(asked: argparse.Namespace) -> int:
     if board is not None:
         noted = functools.partial(note, sources[0].folder.path)
         server = Listener(own or "0.0.0.0", number, board, noted)
-    shown, is_shown = Shown(sources, files, board, asked.once), False
+    all_shown, is_shown = Shown(sources, files, board, asked.once), False
     try:
-        well = shown.look(sources)
+        well = all_shown.look()
         is_shown = True
         if server:
             server.start()
@@ -233,7 +272,7 @@ def show(asked: argparse.Namespace) -> int:
         while True:
             time.sleep(TICK)
             say_what_waits()
-            shown.round()
+            all_shown.look(f"{clock()} ")
     except Stopped:
         if not is_shown or asked.once:
             raise
@@ -241,7 +280,7 @@ def show(asked: argparse.Namespace) -> int:
         say_what_waits(LAST)
         return 0
     finally:
-        shown.leave()
+        all_shown.leave()
 
 
 class Stopped(BaseException):

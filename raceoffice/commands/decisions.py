@@ -30,6 +30,7 @@ import argparse
 import contextlib
 from dataclasses import dataclass
 
+from raceoffice import system
 from raceoffice.decisions import decision_lines
 from raceoffice.decisions.held import holdings
 from raceoffice.decisions.points import Decided, decided
@@ -128,14 +129,18 @@ def check(series: Decisions) -> int:
 
 
 def taken(series: Decisions, lines: list[Line]) -> int:
-    """Sends lines up to the first that isn't taken, and lists the others; how many were."""
-    left = series.send(lines)
-    if left:
-        # What a CLEAR before them took is in these lines alone.
-        say("Not sent, and to be typed in this order:")
-    for line in left:
-        say(with_role(line))
-    return len(lines) - len(left)
+    """Sends lines up to the first that isn't taken, says how many were and lists the others; how many were. Ctrl-C comes once
+    that is said."""
+    with system.stops_deferred():
+        left = series.send(lines)
+        if left:
+            # What a CLEAR before them took is in these lines alone.
+            say("Not sent, and to be typed in this order:")
+        for line in left:
+            say(with_role(line))
+        number = len(lines) - len(left)
+        say(f"{number} of {count(len(lines), 'line')} taken.")
+    return number
 
 
 def send(series: Decisions) -> int:
@@ -156,7 +161,6 @@ def send(series: Decisions) -> int:
             "was sent: send again.")
         return 1
     number = taken(series, lines)
-    say(f"{number} of {count(len(lines), 'line')} taken.")
     return 1 if number < len(lines) else say_stale(series.state().decided)
 
 

@@ -65,4 +65,4 @@ def write(asked: argparse.Namespace, views: list[Snapshot]) -> int:
 
 def run(asked: argparse.Namespace) -> int:
     refuse_options(asked)
-    return status_of(lambda: write(asked, views_of(asked.folder, warn, True)), asked.folder[0], warn)
+    return status_of(lambda: write(asked, views_of(asked.folder, warn)), asked.folder[0], warn)

@@ -4,8 +4,8 @@
                      [--certificate FILE [--key FILE]] [--new ROLE]
 
 Without a folder the scorer's page makes a series in this one, from an entry list and what the sailing
-instructions say. --browser opens that page here. If this folder has series whose results aren't final, it
-asks whether to open them.
+instructions say. It opens here by itself if this computer has a screen; --browser opens it with a series,
+too. If this folder has series whose results aren't final, it asks whether to open them.
 
 It opens the office of each series, keeps it as `raceoffice open` does, and serves the board at / and the
 office's pages to those with a link. A link of each role is printed, with a code for cameras. It is shown this
@@ -58,7 +58,7 @@ def arguments(parser: argparse.ArgumentParser) -> None:
     parser.add_argument("--certificate", default="", metavar="FILE", help="a certificate: then it is HTTPS")
     parser.add_argument("--key", default="", metavar="FILE", help="the certificate's private key")
     parser.add_argument("--browser", action="store_true",
-                        help="open the scorer's page on this computer, by a new link; its devices stay")
+                        help="open the scorer's page on this computer, by a link for this browser alone")
     parser.add_argument("--new", action="append", default=[], choices=["finish", "jury", "scorer"],
                         help="a new link for a role; the old one and its devices are out")
 
@@ -132,9 +132,15 @@ def folders_of(asked: argparse.Namespace) -> list[str]:
     return found
 
 
+def has_screen() -> bool:
+    """Whether a browser can be shown where this runs."""
+    return bool(os.environ.get("DISPLAY") or os.environ.get("WAYLAND_DISPLAY"))
+
+
 def run(asked: argparse.Namespace) -> int:
     def served() -> int:
         folders = tuple(folders_of(asked))
+        is_shown_here = asked.browser or not folders and has_screen()
         return serve(Asked(folders, asked.http, asked.name, asked.certificate, asked.key, tuple(asked.new),
-                           asked.browser, asked.address or ""))
+                           is_shown_here, asked.address or ""))
     return status_of(served, next(iter(asked.folder), ""))

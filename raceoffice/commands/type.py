@@ -32,6 +32,7 @@ from raceoffice.characters import is_utf8
 from raceoffice.errors import Trouble
 from raceoffice.exit_status import status_of
 from raceoffice.program.messages import ROLES
+from raceoffice.results.source import need_own_names
 from raceoffice.series.folder import Folder
 from raceoffice.series.settings import is_between
 from raceoffice.session.session import Session
@@ -106,6 +107,7 @@ def type_lines(asked: argparse.Namespace) -> int:
     if not sys.stdin.isatty():
         return send_file(asked)
     folders = [Folder(path) for path in asked.folders]
+    need_own_names([folder.name for folder in folders])
     system.pass_over_quit()
     return Window(folders, role_of(asked), asked.name).run()
 

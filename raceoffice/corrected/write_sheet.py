@@ -15,7 +15,7 @@ from raceoffice.remarks import Remark, remark
 from raceoffice.series.entry_list import plain
 from raceoffice.series.folder import Folder
 from raceoffice.series.headings import SHEET, columns
-from raceoffice.series.race_sheets import SHEETS, sheet_name
+from raceoffice.series.race_sheets import CARRIED, SHEETS, sheet_name
 from raceoffice.series.read_list import as_csv, bytes_of, table_of
 from raceoffice.series.settings import head_of, lines_of, rows_of
 
@@ -104,6 +104,25 @@ class SheetOfRace:
             self.places[key] = len(self.heads)
             self.heads.append(COLUMNS[key])
         self.put(self.row(sail), key, with_seconds(key, text))
+
+    def put_in_order(self, sails: Sequence[str]) -> None:
+        """Gives each of these boats a row, in this order, with all that hers has from the one above it: what is changed of one
+        boat is no other's then. Rows of others come last."""
+        found = entries_of(self.data, self.name)[0]
+        timed = [entry.cells for entry in found if entry.is_timed and entry.sail in sails]
+        unused = [key for key in CARRIED if key != "start" and timed and not any(cells[key] for cells in timed)]
+        for entry in found:
+            row = self.row(entry.sail)
+            carried = [(key, text) for key, text in entry.cells.items() if text and key in CARRIED]
+            # A code may stand where a start would.
+            for key, text in [(key, text) for key, text in carried if not self.cell(row, key).isalpha() or key != "start"]:
+                if entry.code and (key in unused or not is_form(key, text)):
+                    # The boat below her now would have it, too. She has no time that needs it.
+                    self.put(row, key, "")
+                elif not self.cell(row, key):
+                    self.put(row, key, with_seconds(key, text))
+        rows = [self.row(sail) for sail in sails]
+        self.rows = rows + [row for row in self.rows if not any(row is one for one in rows)]
 
     @property
     def starts(self) -> list[str]:

@@ -20,6 +20,8 @@ from raceoffice.remarks import Remark, remark
 from raceoffice.wording import one_decimal
 
 OUT = ("TLE", "NSC")
+# What gives no points: redress that a boat holds is of another line.
+POINTLESS = ("NSC", "REINSTATE")
 
 
 @dataclass(frozen=True)
@@ -182,20 +184,20 @@ def held_by(ruling: Ruling, journal: Sequence[str], known: Known) -> list[str]:
     """What a boat holds by a decision: `REDRESS`, its points, and `MARK`, the DNF of TLE or NSC. What another line is known to
     have given her since isn't the decision's."""
     held, last = holdings(journal)[ruling.key], {entry.split()[3]: entry for entry in about(journal, *ruling.key)}
-    has = {"REDRESS": held.is_points and ruling.kind not in ("NSC", "REINSTATE"), "MARK": held.code == "DNF" and ruling.kind in OUT}
+    has = {"REDRESS": held.is_points and ruling.kind not in POINTLESS, "MARK": held.code == "DNF" and ruling.kind in OUT}
     return [command for command, is_held in has.items() if is_held and last[command] not in known.of_others]
 
 
 def verdict(ruling: Ruling, held: Holding, figures: Figures) -> Verdict:
     """What a decision comes to, beside what the journal holds."""
     wanted, why = figures.points.get(ruling, ""), figures.why.get(ruling)
-    has_code = held.code == "DNF" or ruling.kind not in OUT
-    if why or wanted and wanted == held.redress and has_code:
-        return Verdict(ruling, wanted, held.redress, (), why)
+    has_code, points = held.code == "DNF" or ruling.kind not in OUT, "" if ruling.kind in POINTLESS else held.redress
+    if why or wanted and wanted == points and has_code:
+        return Verdict(ruling, wanted, points, (), why)
     lines = without(ruling, held)
     if wanted:
         lines.append(Line("JURY", f"REDRESS {ruling.race} {ruling.sail} {wanted}"))
-    return Verdict(ruling, wanted, held.redress, tuple(lines))
+    return Verdict(ruling, wanted, points, tuple(lines))
 
 
 class Figures:

@@ -5,9 +5,8 @@ import contextlib
 import os
 import signal
 import subprocess
-import threading
 import time
-from collections.abc import Callable, Iterator
+from collections.abc import Callable
 
 from raceoffice import system
 from raceoffice.errors import Gone, Trouble
@@ -79,7 +78,7 @@ class OfficeProcess:
         # Nobody takes the program over from this window before it is noted.
         self.show()
         with open(self.file("table"), "wb", opener=opened_as_ours) as table, \
-                open(self.file("fault"), "wb", opener=opened_as_ours) as fault, stops_deferred():
+                open(self.file("fault"), "wb", opener=opened_as_ours) as fault, system.stops_deferred():
             # A file that may not grow is a failed write then: Python leaves SIGXFSZ ignored.
             self.process = subprocess.Popen(
                 serve_words(self.folder, SESSIONS), cwd=self.file(), stdin=subprocess.DEVNULL,
@@ -259,24 +258,3 @@ class OfficeProcess:
             if time.monotonic() > end:
                 raise Trouble(remark("office-no-end", seconds=f"{patience:g}"))
             time.sleep(0.02)
-
-
-@contextlib.contextmanager
-def stops_deferred() -> Iterator[None]:
-    """Lets a signal that ends this window come only after the program that it starts has been noted: else
-    the program would stay, and nobody would know of it. Signals come to the main thread, and end no other."""
-    if threading.current_thread() is not threading.main_thread():
-        yield
-        return
-    handlers = {number: signal.getsignal(number) for number in system.STOPS}
-    caught = {number: handler for number, handler in handlers.items() if callable(handler)}
-    came: list[int] = []
-    for number in caught:
-        signal.signal(number, lambda number, _: came.append(number))
-    try:
-        yield
-    finally:
-        for number, handler in caught.items():
-            signal.signal(number, handler)
-    for found in came:
-        signal.raise_signal(found)

@@ -17,7 +17,6 @@ from raceoffice.office.keeping import Keeping
 from raceoffice.series.folder import Folder, clock
 from raceoffice.series.health import notes, summary
 from raceoffice.series.kept_places import kept_in_words
-from raceoffice.series.windows import TYPING, open_windows
 from raceoffice.session.dialogue import Question
 from raceoffice.terminal import TYPED, YES_OR_NO, is_yes, question, say, say_if_heard, say_what_waits, sentence
 from raceoffice.traces import guarded
@@ -99,7 +98,7 @@ class OfficeWindow(Keeping):
         """Who may still type, and which places are kept, or why nobody knows; empty if there is nothing."""
         try:
             with guarded(self.folder.path):
-                windows = list(open_windows(self.folder, TYPING).values())
+                windows = self.folder.windows_to_type()
                 self.say_once("places", self.backups.guard_places())
                 kept = kept_in_words(self.folder)
         except Trouble as trouble:

@@ -48,13 +48,18 @@ class Link:
             self.socket = system.socket_of_office()
         except OSError as cause:
             raise unreachable(path, cause) from None
-        self.socket.settimeout(self.patience)
+        self.wait_for(self.patience)
         try:
             with system.short_name(path) as name:
                 self.socket.connect(name)
         except OSError as cause:
             self.close()
             raise unreachable(path, cause) from None
+
+    def wait_for(self, patience: float) -> None:
+        """From now on waits so many seconds for an answer."""
+        self.patience = patience
+        self.socket.settimeout(patience)
 
     def fileno(self) -> int:
         return self.socket.fileno()

@@ -2,27 +2,21 @@
 they ask what the program would say."""
 from __future__ import annotations
 
-import contextlib
 import hashlib
-import itertools
 import os
 import re
-import signal
 import stat
 import subprocess
-import threading
-from collections.abc import Callable, Sequence
+from collections.abc import Sequence
 from dataclasses import dataclass
 
 from raceoffice import system
 from raceoffice.errors import Trouble
 from raceoffice.program.link import Sheet
 from raceoffice.program.messages import refusal
-from raceoffice.program.standing import Ranks, Standing
 from raceoffice.remarks import Remark, remark, system_remark
 
-# Seconds that the program may take for a replay, and for each 1,000 bytes of its journal: of a full series
-# it prints the table once for each race.
+# Seconds that the program may take for a replay, and for each 1,000 bytes of its journal.
 PATIENCE, FOR_JOURNAL = 60.0, 1.0
 
 
@@ -47,39 +41,6 @@ def ran(program: str, words: list[str], typed: str = "", journal: bytes | None =
                                   pass_fds=numbers)
     except (OSError, subprocess.TimeoutExpired) as cause:
         raise not_run(program, cause) from cause
-
-
-def watched(program: str, words: list[str], typed: str, journal: bytes,
-            seen: Callable[[str], None]) -> list[str]:
-    """What a replay prints for a few lines, of which each is seen as soon as it comes."""
-    printed: list[str] = []
-    try:
-        with system.lent_files({"--journal": journal}) as (files, numbers), subprocess.Popen(
-                [program, "replay", *words, *files], stdin=subprocess.PIPE, stdout=subprocess.PIPE,
-                stderr=subprocess.PIPE, encoding="utf-8", errors="replace", pass_fds=numbers) as process:
-            assert process.stdin and process.stdout and process.stderr
-            alarm = threading.Timer(patience(journal), process.kill)
-            alarm.start()
-            try:
-                with contextlib.suppress(BrokenPipeError):
-                    process.stdin.write(typed)
-                    process.stdin.close()
-                for line in process.stdout:
-                    printed.append(line.removesuffix("\n"))
-                    seen(printed[-1])
-                said = process.stderr.read()
-            except BaseException:
-                process.kill()
-                raise
-            finally:
-                alarm.cancel()
-    except OSError as cause:
-        raise not_run(program, cause) from cause
-    if process.returncode == -signal.SIGKILL:
-        raise Trouble(remark("program-unrun", path=program, why=remark("why-endless")))
-    if process.returncode:
-        raise Trouble(program_said(said.strip()))
-    return printed
 
 
 def patience(journal: bytes | None) -> float:
@@ -135,43 +96,6 @@ def scored(program: str, options: list[str], journal: Sequence[str],
         if not answer.startswith(("OK ", "ROLE ")):
             raise Trouble(remark("program-refuses", line=line, answer=answer, why=refusal(answer)))
     return sheet_of(said[len(typed):])
-
-
-def developed(program: str, options: list[str], journal: Sequence[str], races: Sequence[int],
-              tell: Callable[[int, int], None] = lambda done, all: None) -> tuple[Ranks, ...]:
-    """The ranks after each race, by the scores as they are now. `tell` hears how many are there, of how
-    many.
-
-    The program is asked with the later races unscored. The journal's beginnings would give other
-    standings: those of the moment, before a hearing or a late entry. The last of them would agree
-    with the table, and the others with no column of it. No ranks come back if
-    the journal has no room for these lines.
-    """
-    typed = [line for race in reversed(races) for line in ("SHOW", f"UNSCORE {race}")]
-    shown = itertools.count(1)
-
-    def see(line: str) -> None:
-        if line.startswith("JOURNAL "):
-            tell(next(shown), len(races))
-
-    said = watched(program, options, "\n".join([*typed, "QUIT", ""]), bytes_of(journal), see)
-    found = []
-    while said and said[0].startswith("JOURNAL "):
-        sheet, end = sheet_of(said), said.index("END")
-        found.append(Standing.read(list(sheet.table)).ranks())
-        if not "".join(said[end + 1:end + 2]).startswith("OK "):
-            return ()
-        said = said[end + 2:]
-    return tuple(reversed(found))
-
-
-def nets_before_exclusion(program: str, options: list[str],
-                          journal: Sequence[str]) -> dict[str, str]:
-    """The net of each boat if no score were excluded, by the program."""
-    without = ["none" if before == "--exclude" else word
-               for before, word in zip(["", *options], options)]
-    table = scored(program, without, journal).table
-    return {row.sail: row.net for row in Standing.read(list(table)).rows}
 
 
 def bytes_of(journal: Sequence[str]) -> bytes:

@@ -76,27 +76,6 @@ def row_of(line: str, races: int) -> Row:
 
 
 @dataclass(frozen=True)
-class Break:
-    """By which rule a tie is broken, at which score or race, and the tenths of both boats there."""
-    rule: str
-    at: int
-    better: int
-    worse: int
-
-
-def tie_break(races: tuple[int, ...], better: Row, worse: Row) -> Break | None:
-    """What broke the tie of two boats with the same net; None if they share the rank."""
-    counting = [sorted(s.tenths for s in row.scores if not s.excluded) for row in (better, worse)]
-    best = [Break("A8.1", at, a, b) for at, (a, b) in enumerate(zip(*counting), 1)]
-    last = [Break("A8.2", number, a.tenths, b.tenths)
-            for number, a, b in zip(races, better.scores, worse.scores)]
-    found = next((step for step in best + last[::-1] if step.better != step.worse), None)
-    if found and found.better > found.worse:
-        raise NoTable(remark("table-order", sail=better.sail, other=worse.sail, rule=found.rule))
-    return found
-
-
-@dataclass(frozen=True)
 class Change:
     """How a correction moved one boat: rank, net and scores, before and after."""
     before: Row

@@ -1,41 +1,33 @@
 """The results of series as files: a page, CSV, JSON, or a text for a mail."""
 from __future__ import annotations
 
-import dataclasses
 from collections.abc import Callable, Sequence
 from dataclasses import dataclass
 
-from raceoffice.program.replay import developed
 from raceoffice.results.html.notice_board import results
 from raceoffice.results.html.sealing import version_of
 from raceoffice.results.mail import mail
 from raceoffice.results.snapshot import Snapshot, as_json, results_csv, results_value
 from raceoffice.results.source import ResultsSource, need_own_names
-from raceoffice.terminal import Progress, sentence
+from raceoffice.terminal import sentence
 
 Tell = Callable[[str], None]
 
 
-def view_of(folder: str, tell: Tell, is_at_terminal: bool = False) -> Snapshot:
-    """The results of a series by its journal, with the ranks after each race. `tell` is called with
-    each trouble that doesn't keep them from being shown. A terminal shows how far long work is."""
+def view_of(folder: str, tell: Tell) -> Snapshot:
+    """The results of a series by its journal. `tell` is called with each trouble that doesn't keep them from being shown."""
     source = ResultsSource(folder)
     source.show(source.from_journal())
     for text in source.notes.values():
         if text:
             tell(f"{source.name}: {sentence(text)}")
-    view = source.view
-    assert view is not None
-    progress = Progress(source.name, is_at_terminal)
-    course = developed(source.folder.program, view.settings.options(), view.journal, view.standing.races,
-                       progress)
-    progress.end()
-    return dataclasses.replace(view, course=course)
+    assert source.view is not None
+    return source.view
 
 
-def views_of(folders: Sequence[str], tell: Tell, is_at_terminal: bool = False) -> list[Snapshot]:
+def views_of(folders: Sequence[str], tell: Tell) -> list[Snapshot]:
     """The results of the series, whose folders have to have different names: a page knows them by these."""
-    views = [view_of(folder, tell, is_at_terminal) for folder in folders]
+    views = [view_of(folder, tell) for folder in folders]
     need_own_names([view.name for view in views])
     return views
 

@@ -15,8 +15,9 @@ from dataclasses import dataclass, field
 from raceoffice import time_zones
 from raceoffice.characters import in_no_order, in_one_form, is_composed, is_right_to_left
 from raceoffice.decisions.points import Decided
+from raceoffice.program.explanation import Explanation
 from raceoffice.program.journal import Race, Series
-from raceoffice.program.standing import Ranks, Row, Score, Standing, tie_break
+from raceoffice.program.standing import Row, Score, Standing
 from raceoffice.results.spreadsheet import Cell, as_number, csv_of
 from raceoffice.series.entry_list import Boat
 from raceoffice.series.settings import Settings
@@ -31,21 +32,20 @@ class Snapshot:
     """One series at one moment; `key` is all that it was made from.
 
     `journal` and `program`, the SHA-256 of the program's file, are what a page carries for those who
-    verify it. `course` has the ranks after each race, for a chart. A page that is made again to
-    be verified has the words of its time from the computer that made it, if the series names no zone.
+    verify it. A page that is made again to be verified has the words of its time from the computer that
+    made it, if the series names no zone.
     """
     name: str
     settings: Settings
     standing: Standing
     series: Series
     boats: dict[str, Boat]
-    totals: dict[str, str]
+    explanation: Explanation
     changed: datetime.datetime
     key: object = None
     journal: tuple[str, ...] = ()
     decided: Decided = Decided()
     program: str = ""
-    course: tuple[Ranks, ...] = ()
     said: str = ""
     # What the names of places in a page begin with, if it has several series.
     ids: str = ""
@@ -92,6 +92,11 @@ class Snapshot:
                 shown.reason, shown.options(), self.decided)
 
     @property
+    def totals(self) -> dict[str, str]:
+        """Each boat's points before exclusion; none if no score is excluded."""
+        return self.explanation.totals
+
+    @property
     def has_helms(self) -> bool:
         return any(boat.helm for boat in self.boats.values())
 
@@ -129,12 +134,7 @@ class Snapshot:
                 groups[-1].append(row)
             else:
                 groups.append([row])
-        found = [group for group in groups if len(group) > 1]
-        # A table whose order isn't that of the rules is no table to show.
-        for group in found:
-            for better, worse in zip(group, group[1:]):
-                tie_break(self.standing.races, better, worse)
-        return found
+        return [group for group in groups if len(group) > 1]
 
     def local(self, when: datetime.datetime) -> datetime.datetime:
         """A moment in the series' zone, or else in this computer's."""

@@ -10,9 +10,10 @@ from raceoffice.decisions import decision_lines
 from raceoffice.decisions.points import Decided, decided
 from raceoffice.errors import Trouble
 from raceoffice.remarks import remark
-from raceoffice.program.journal import Series, last_scored
+from raceoffice.program.explanation import Explanation, explanation_of
+from raceoffice.program.journal import Series
 from raceoffice.program.link import Link, Sheet
-from raceoffice.program.replay import digest_of, nets_before_exclusion
+from raceoffice.program.replay import digest_of
 from raceoffice.program.standing import Standing
 from raceoffice.results.snapshot import CHANGED, Snapshot, labelled
 from raceoffice.series import entry_list, settings
@@ -54,7 +55,6 @@ class ResultsSource:
         self.rules: dict[str, object] = {}
         self.notes: dict[str, str] = {}
         self.replayed: tuple[object, Sheet] | None = None
-        self.summed: tuple[object, dict[str, str]] | None = None
         self.weighed: tuple[object, Decided] | None = None
         self.due = 0.0
 
@@ -181,13 +181,13 @@ class ResultsSource:
         series = Series.read(list(sheet.journal))
         found = self.decided(sheet, shown, key[3])
         fresh = Snapshot(self.folder.name, shown, labelled(standing, found.labels), series, key[2],
-                     self.totals(sheet, standing, shown), now(), key, sheet.journal, found, digest)
-        if old is not None and old.results() == fresh.results():
-            changed = old.changed
-        else:
+                     old.explanation if old else Explanation(), old.changed if old else now(), key, sheet.journal, found, digest)
+        if old is None or old.results() != fresh.results():
+            why = explanation_of(self.folder.program, shown.options(), sheet.journal, standing)
             is_seen = old is not None and old.standing != fresh.standing
-            changed = self.changed_at(sheet, standing, is_seen)
-        self.view = dataclasses.replace(fresh, changed=changed.astimezone(datetime.timezone.utc))
+            changed = self.changed_at(sheet, why.last_entry, is_seen).astimezone(datetime.timezone.utc)
+            fresh = dataclasses.replace(fresh, explanation=why, changed=changed)
+        self.view = fresh
 
     def reason(self, sheet: Sheet) -> str:
         """What is shown below the title; also that the results aren't those that were declared."""
@@ -196,19 +196,6 @@ class ResultsSource:
             return said
         before = f"{sentence(said)} " if said else ""
         return f"{before}{CHANGED.format(state)}"
-
-    def totals(self, sheet: Sheet, standing: Standing, shown: Settings) -> dict[str, str]:
-        """The net of each boat without exclusions, by the program; none if nothing is excluded.
-
-        As long as the table is the same, so are they: a long journal is replayed when it has changed.
-        """
-        if not any(score.excluded for row in standing.rows for score in row.scores):
-            return {}
-        options = shown.options()
-        if self.summed is None or self.summed[0] != (sheet.table, options):
-            totals = nets_before_exclusion(self.folder.program, options, sheet.journal)
-            self.summed = ((sheet.table, options), totals)
-        return self.summed[1]
 
     def decided(self, sheet: Sheet, shown: Settings, text: str) -> Decided:
         """What the decisions come to now; they are worked out when the journal has changed."""
@@ -219,12 +206,12 @@ class ResultsSource:
         self.note("stale", ". ".join(found.stale))
         return found
 
-    def changed_at(self, sheet: Sheet, standing: Standing, is_seen: bool) -> datetime.datetime:
-        """When the results changed last, as far as the log and the files know. If a change is seen just
-        now that isn't in the log, it is now. A file that is dated before 1970, or after 9998, is as of then: no page has an
+    def changed_at(self, sheet: Sheet, last_entry: int, is_seen: bool) -> datetime.datetime:
+        """When the results changed last, as far as the log and the files know: they depend on no later entry. If a change is
+        seen just now that isn't in the log, it is now. A file that is dated before 1970, or after 9998, is as of then: no page has an
         earlier moment, or a later one."""
         logged, state = self.folder.logged(), self.settings.state
-        entry = time_of_entry(logged, sheet.journal, last_scored(list(sheet.journal), standing.races))
+        entry = time_of_entry(logged, sheet.journal, last_entry)
         notice = time_of_notice(logged, state)
         times = [time for time in (entry, notice, time_of_rules(logged)) if time]
         files = [] if entry or is_seen else [self.folder.journal]

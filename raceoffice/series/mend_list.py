@@ -2,11 +2,12 @@
 done to it."""
 from __future__ import annotations
 
+import re
 from dataclasses import dataclass, field
 
 from raceoffice.remarks import Remark, remark
-from raceoffice.series.entry_list import Boat, boats_of, column_like, left_in_words, problems
-from raceoffice.series.headings import ENTRIES, column, rating_columns
+from raceoffice.series.entry_list import SAIL, Boat, boats_of, column_like, left_in_words, plain, problems
+from raceoffice.series.headings import ENTRIES, column, columns, rating_columns
 from raceoffice.series.read_list import (FIRST_ROWS, MARKS, SEPARATORS, Rows, Table, as_csv, decoded, heading_at,
                                          rank_of, rows_of, wrong_form)
 from raceoffice.wording import on_one_line
@@ -43,7 +44,7 @@ def mended(data: bytes, sails: int | None = None) -> Mended:
     if above:
         done.append(remark("list-above", n=above))
     heads = [on_one_line(head) for head in table.heads]
-    named = list(heads)
+    named, headless = list(heads), headless_at(table, heads, sails)
     if sails is None and column(heads, ENTRIES["sail"]) is None:
         sails = column_like(heads)
     if sails is not None and 0 <= sails < len(heads):
@@ -53,7 +54,23 @@ def mended(data: bytes, sails: int | None = None) -> Mended:
     clean, numbered = as_csv([named, *rows]), as_csv(at_their_rows(table, named, rows))
     if left := left_in_words(clean):
         done.append(left)
-    return Mended(clean, numbered, heads, done, problems(numbered, NAME), column(named, ENTRIES["sail"]) is not None)
+    return Mended(clean, numbered, heads, done, headless + problems(numbered, NAME), column(named, ENTRIES["sail"]) is not None)
+
+
+def headless_at(table: Table, heads: list[str], sails: int | None) -> list[Remark]:
+    """Says that a list has no headings, if a boat stands in place of that of the sails, as somebody chose it: she would be left
+    out."""
+    chosen = heads[sails] if sails is not None and 0 <= sails < len(heads) else ""
+    # Her sail may have a sign that is none of a sail's.
+    is_boat = bool(SAIL.fullmatch(re.sub("[^A-Z0-9-]", "", plain(chosen)))) and any(letter.isdigit() for letter in chosen)
+    return [remark("list-headless", name=NAME, row=table.first, written=chosen)] if is_boat and not are_headings(heads) else []
+
+
+def are_headings(heads: list[str]) -> bool:
+    """Whether a row surely has headings: two are known, or it has the columns' numbers, as spreadsheets name them."""
+    named = heads[0].rstrip("0123456789")
+    is_numbered = len(heads) > 1 and heads == [f"{named}{number}" for number in range(1, len(heads) + 1)]
+    return is_numbered or len(columns(heads, ENTRIES)) + len(rating_columns(heads)) > 1
 
 
 def at_their_rows(table: Table, heads: list[str], rows: list[list[str]]) -> list[list[str]]:

@@ -6,6 +6,7 @@ import os
 import re
 from dataclasses import dataclass
 
+from raceoffice import system
 from raceoffice.errors import NotSent, Trouble
 from raceoffice.files import replace_whole
 from raceoffice.program.messages import moved, refusal
@@ -100,11 +101,12 @@ def remove(path: str, words: list[str]) -> int:
     if not question(f"Take {sail} out? The journal with her stays in kept/."):
         say("Nothing was changed.")
         return 1
-    copy, fault = take_out(folder, found)
-    if fault:
-        say(f"No second copy: {fault}.")
-    left = count(found.entries - len(found.about), "entry", "entries")
-    say(f"{sail} is taken out. journal.txt has {left}; {copy} has all {found.entries}.")
+    with system.stops_deferred():
+        copy, fault = take_out(folder, found)
+        if fault:
+            say(f"No second copy: {fault}.")
+        left = count(found.entries - len(found.about), "entry", "entries")
+        say(f"{sail} is taken out. journal.txt has {left}; {copy} has all {found.entries}.")
     if text := kept_in_words(folder):
         say(text)
     return 0

@@ -12,7 +12,7 @@ from raceoffice.program.replay import Line
 from raceoffice.series.folder import Folder
 from raceoffice.series.lost_lines import UNANSWERED
 from raceoffice.series.run_program import options_in_force, replayed, settings_in_force
-from raceoffice.terminal import say
+from raceoffice.terminal import say, sentence
 
 Sent = TypeVar("Sent", str, Line)
 
@@ -47,14 +47,21 @@ class Sender:
     def reply(self, line: Line) -> str:
         """Sends a line in its role, and logs its answer. A Trouble says why there is none."""
         link = self.office()
+        link.ask(f"ROLE {line.role}")
         try:
-            link.ask(f"ROLE {line.role}")
             answer = link.ask(line.text)
-        except Trouble:
-            self.folder.log(self.who, "", line.role, line.text, UNANSWERED)
-            raise
-        self.folder.log(self.who, "", line.role, line.text, answer)
+        except Trouble as trouble:
+            self.log(line, UNANSWERED)
+            raise Trouble(f"{trouble}. It may be in the journal, or not: look before you type it") from None
+        self.log(line, answer)
         return answer
+
+    def log(self, line: Line, answer: str) -> None:
+        """Logs a line with its answer. What the office has taken is taken, also if the log can't be written."""
+        try:
+            self.folder.log(self.who, "", line.role, line.text, answer)
+        except Trouble as trouble:
+            say(f"Beware: {sentence(trouble)}")
 
     def answer(self, line: Line) -> str:
         """The answer to a line, once it is taken. A Trouble says why it wasn't."""

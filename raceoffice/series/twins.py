@@ -7,15 +7,17 @@ was killed has left.
 from __future__ import annotations
 
 import contextlib
+import functools
 import os
 from collections.abc import Sequence
 from dataclasses import dataclass
 from typing import Union
 
 from raceoffice import system
-from raceoffice.errors import NotSent, Trouble
+from raceoffice.errors import NotSent, Trouble, said_of
 from raceoffice.series.folder import Folder
-from raceoffice.series.kept_places import History, Note, Places, history_of
+from raceoffice.series.kept_places import History, Key, Note, Places, history_of
+from raceoffice.side_by_side import SideBySide
 
 # What is said: a fixed word, and its values.
 Said = tuple[str, dict[str, Union[str, int, list[str]]]]
@@ -39,7 +41,7 @@ class Place:
 
     @property
     def is_left(self) -> bool:
-        """Whether it ended as she was known in another class."""
+        """Whether it ended for what became of her in another class: she is known there, or never was."""
         end = self.history.ended.get(self.kept.key)
         return end is not None and end.what == "dropped" and end.finisher != ""
 
@@ -56,6 +58,8 @@ class Twins:
         self.changed: set[str] = set()
         # Those of whom it was said that they aren't kept in all their classes.
         self.told: set[str] = set()
+        # A class whose folder hangs holds up no other. Until it answers it is left out.
+        self.beside = SideBySide[list[Place]]()
 
     def follow(self, history: History, by: str) -> list[Said]:
         """Ends places of those who are known in another class, and keeps them again if they aren't any more;
@@ -64,13 +68,21 @@ class Twins:
         for kept in list(history.kept.values()):
             place = Place(self.folder, history, kept)
             if kept.finisher and (place.is_open or kept.finisher not in self.settled):
-                others = others_of(place)
+                others = self.others_of(place)
                 said += self.agree([place, *others], by) + self.lacking(place, others)
+                if any(map(self.beside.is_late, kept.also)):
+                    self.settled.discard(kept.finisher)
         return said
+
+    def others_of(self, place: Place) -> list[Place]:
+        """Her places in the other classes, as far as those can be read."""
+        asked = {name: functools.partial(places_of, os.path.join(place.folder.path, name), place.kept.finisher)
+                 for name in place.kept.also}
+        return [other for found in self.beside.answers(asked).values() for other in found]
 
     def lacking(self, place: Place, others: Sequence[Place]) -> list[Said]:
         """In which other classes she isn't kept, as the window was killed that was about to do it; said once."""
-        names = {os.path.basename(os.path.join(self.folder.path, name)) for name in place.kept.also}
+        names = {os.path.basename(os.path.join(self.folder.path, name)) for name in place.kept.also if not self.beside.is_late(name)}
         names -= {other.folder.name for other in others}
         is_new = place.is_open and place.kept.finisher not in self.told
         if not names or not is_new or place.kept.window in system.processes():
@@ -96,6 +108,21 @@ class Twins:
                 said.append((what, {"class_name": place.folder.name, "mark": place.kept.place}))
         return said
 
+    def drop_others(self, history: History, key: Key, by: str) -> list[tuple[Place, str]]:
+        """Drops the other places of a finisher whose own was a slip; each with why it can't be, or nothing. They are kept
+        again as soon as her own is."""
+        kept, found = history.kept.get(key), list[tuple[Place, str]]()
+        others = self.others_of(Place(self.folder, history, kept)) if kept and kept.finisher else []
+        for place in others:
+            if place.is_open:
+                try:
+                    Places(place.folder, by, self.end).drop_known(place.kept, "undone")
+                    found.append((place, ""))
+                except NotSent as why:
+                    found.append((place, said_of(why)))
+                self.changed.add(place.folder.path)
+        return found
+
     def is_noted(self, place: Place, known: Place | None, by: str) -> bool:
         """Ends a place, or keeps it again; whether that is noted now. Whoever looks next tries again."""
         notes = Places(place.folder, by, self.end)
@@ -111,13 +138,10 @@ class Twins:
         return True
 
 
-def others_of(place: Place) -> list[Place]:
-    """Her places in the other classes, as far as those can be read."""
-    found = []
-    for name in place.kept.also:
-        with contextlib.suppress(Trouble):
-            folder = Folder(os.path.join(place.folder.path, name))
-            history = history_of(folder)
-            found += [Place(folder, history, note) for note in history.kept.values()
-                      if note.finisher == place.kept.finisher]
-    return found
+def places_of(path: str, finisher: str) -> list[Place]:
+    """The places of a finisher in the class of a folder; none if that can't be read."""
+    with contextlib.suppress(Trouble):
+        folder = Folder(path)
+        history = history_of(folder)
+        return [Place(folder, history, note) for note in history.kept.values() if note.finisher == finisher]
+    return []

@@ -27,8 +27,9 @@ class Files(Protocol):
 class Presence:
     """Shows that this window is open, of which kind it is, and who types there; not on a full disk."""
 
-    def __init__(self, folder: Files, kind: str, who: str = "") -> None:
-        self.path = folder.file(PRIVATE, FOLDER, str(os.getpid()))
+    def __init__(self, folder: Files, kind: str, who: str = "", of: str = "") -> None:
+        # A process may show two of a series: its own window, and what it shows `of` others.
+        self.path = folder.file(PRIVATE, FOLDER, f"{os.getpid()}{of}")
         self.file = -1
         text = f"{kind}\t{who or kind} since {time.strftime('%H:%M')}\n"
         with contextlib.suppress(OSError):

@@ -1,12 +1,14 @@
 """A race that is abandoned: the lines that take it away, sent after one question."""
 from __future__ import annotations
 
+from raceoffice import system
 from raceoffice.errors import NotSent
 from raceoffice.program.journal import Plan, Race, plan_of_abandoning
 from raceoffice.remarks import remark
 from raceoffice.series.abandoned import note_abandoned
 from raceoffice.series.race_sheets import clear_sheet, sheet_without_race
 from raceoffice.session.answers import changes_said, plan_said
+from raceoffice.session.confirm import before_declared
 from raceoffice.session.parse import MAY
 from raceoffice.session.seat import Done, Seat
 from raceoffice.session.sending import say_declared
@@ -26,7 +28,8 @@ def abandon(seat: Seat, race: Race) -> bool:
     seat.tell_all(plan_said(seat.facts, race, plan, kept, seat.prefix))
     asked = seat.question("abandon", race=race.number, lines=plan.lines, marks=kept) if plan.lines or kept else \
         seat.question("clear-sheet", race=race.number)
-    if not seat.ask(asked):
+    first = before_declared(seat.facts) if race.counts else []
+    if not all(map(seat.ask, [*first, asked])):
         return seat.not_sent()
     seat.look()
     now = seat.facts.race(str(race.number))
@@ -38,10 +41,12 @@ def abandon(seat: Seat, race: Race) -> bool:
         # What it had would be sent again by the next tap.
         clear_sheet(seat.folder, race.number, sheet)
     before, length = seat.facts.standing, len(seat.facts.sheet.journal)
-    if not is_sent(seat, race, plan):
-        return False
-    named = [unread for unread in seat.unread.of(race.number) if unread.mark in kept]
-    seat.drop_safely(named, f"race {race.number} was taken away")
+    # What a CLEAR takes, and what stays of that, is in the lines after it alone; and no place stays of a race that is gone.
+    with system.stops_deferred():
+        if not is_sent(seat, race, plan):
+            return False
+        named = [unread for unread in seat.unread.of(race.number) if unread.mark in kept]
+        seat.drop_safely(named, f"race {race.number} was taken away")
     lines = count(len(plan.lines), "line")
     seat.done = Done(why=remark("undo-abandon", race=race.number, lines=lines))
     seat.say_of("taken-away", race=race.number, lines=len(plan.lines))

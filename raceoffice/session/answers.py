@@ -59,7 +59,9 @@ def place_in(race: Race, sail: str, unread: int) -> tuple[str, Values]:
     """A finisher's place; `unread` finishers ahead of her aren't in the order yet."""
     place, tied = race.places().get(sail, (0, False))
     if not place and sail in race.codes:
-        return "coded", {"holds": race.codes[sail]}
+        # Redress is her score, whatever code she holds.
+        is_given = sail in race.redress
+        return ("held", {"held": codes_of(race, sail)}) if is_given else ("coded", {"holds": race.codes[sail]})
     return ("finished", {"place": place, "tied": tied, "unread": unread}) if place else ("out-again", {})
 
 

@@ -24,12 +24,12 @@ def questions(facts: Facts, role: str, line: str, unread: Sequence[Unread]) -> l
         # The office refuses it, or it is a question itself.
         return []
     if command == "ENTER":
-        return [before_entry(facts, rest[0])]
+        return [*before_declared(facts), before_entry(facts, rest[0])]
     race = facts.series.races.get(race_number(rest[0]))
     if command == "SCORE" and len(rest) == 1 and race and not race.counts:
-        return before_score(facts, race, unread)
+        return before_declared(facts) + before_score(facts, race, unread)
     if command == "UNSCORE" and len(rest) == 1 and race and race.counts:
-        return [question("unscore", facts.called, race=race.number)]
+        return [*before_declared(facts), question("unscore", facts.called, race=race.number)]
     asked = []
     if command == "CLEAR" and race and len(rest) == 2:
         asked = before_clear(facts, race, rest[1])
@@ -47,6 +47,13 @@ def declared(folder: Folder) -> dict[str, str]:
         state = settings.read(folder.path).state
         return {} if state == "provisional" else {"declared": state}
     return {}
+
+
+def before_declared(facts: Facts) -> list[Question]:
+    """What is asked before a line that changes the results, and that is no correction of a race that counts, once they are
+    declared."""
+    found = declared(facts.folder)
+    return [question("declared", facts.called, **found)] if found else []
 
 
 def before_entry(facts: Facts, sail: str) -> Question:

@@ -2,9 +2,12 @@
 names."""
 from __future__ import annotations
 
+import copy
+import dataclasses
 from collections.abc import Iterable
 
 from raceoffice.errors import NotSent
+from raceoffice.files import stamp_of
 from raceoffice.program.journal import Race, Series
 from raceoffice.program.link import Sheet
 from raceoffice.program.standing import Standing
@@ -19,14 +22,31 @@ class Facts:
 
     def __init__(self, folder: Folder) -> None:
         self.folder, self.settings = folder, folder.settings
-        self.names = entry_list.read_if_there(folder.entries)
+        self.names: dict[str, entry_list.Boat] = {}
+        self.listed: object = None
+        self.read_names()
         self.read(Sheet((), ("TABLE 0 RACES",)))
+
+    def read_names(self) -> None:
+        """Reads how boats are called, if their list is another. One that can't be read leaves them as they were."""
+        if (listed := stamp_of(self.folder.entries)) != self.listed:
+            self.names, self.listed = entry_list.read_if_there(self.folder.entries) or self.names, listed
 
     def read(self, sheet: Sheet) -> None:
         """Takes over what the office shows."""
         self.sheet = sheet
         self.series = Series.read(list(sheet.journal))
         self.standing = Standing.read(list(sheet.table))
+
+    def followed(self, entry: str) -> Facts:
+        """What is known of the races once the journal has one more entry, which is about a race. The table stays as it was
+        shown."""
+        fresh, words = copy.copy(self), entry.split()[3:]
+        race = copy.deepcopy(self.race(words[1]))
+        fresh.sheet = Sheet((*self.sheet.journal, entry), self.sheet.table)
+        fresh.series = dataclasses.replace(self.series, races=self.series.races | {race.number: race})
+        fresh.series.follow(words)
+        return fresh
 
     @property
     def boats(self) -> list[str]:

@@ -14,8 +14,8 @@ from raceoffice.session.seat import Done, Seat
 from raceoffice.session.sending import is_meant, send, transmit
 
 # How many places are kept in a race at once, beside one for each boat that is entered or in the list: somebody may be tapped
-# twice, or be in neither.
-MORE = 10
+# twice, or be in neither. No list is so short that fewer are kept than these.
+MORE, LEAST = 10, 100
 
 
 def keep_or_send(seat: Seat, mark: str, sail: list[str]) -> bool:
@@ -54,10 +54,18 @@ def keep(seat: Seat, race: Race, typed: str = "", why: str = "", twin: Twin = Tw
 
 
 def need_room(seat: Seat, race: int) -> None:
-    """NotSent if a race keeps as many places as it may. Nobody needs more, and each tap of all goes through all of them."""
-    kept, boats = len(seat.unread.of(race)), {*seat.facts.boats, *seat.facts.names}
-    if kept >= len(boats) + MORE:
+    """NotSent if a race keeps as many places as it may, or all races together twice as many. Nobody needs more, and each tap
+    of all goes through all of them."""
+    kept, most = len(seat.unread.of(race)), most_of(seat)
+    if kept >= most:
         raise NotSent(remark("places-most", race=race, kept=kept))
+    if len(seat.unread.all) >= 2 * most:
+        raise NotSent(remark("places-many", kept=len(seat.unread.all)))
+
+
+def most_of(seat: Seat) -> int:
+    """How many places a race of a class keeps at once."""
+    return max(len({*seat.facts.boats, *seat.facts.names}) + MORE, LEAST)
 
 
 def send_or_place(seat: Seat, line: str, is_bare: bool, later: str = "") -> bool:

@@ -122,9 +122,16 @@ def of_unscore(words: Words) -> str:
     return f"Race {words.text('race')} counts. Take it out of the results?"
 
 
+# What was declared of results
+DECLARED = {"final": "THE RESULTS ARE FINAL.", "amended": "THE RESULTS HAVE BEEN AMENDED."}
+
+
+def of_declared(words: Words) -> str:
+    return f"{DECLARED[words.text('declared')]} Is this a correction?"
+
+
 def of_correction(words: Words) -> str:
-    said = {"final": "THE RESULTS ARE FINAL. ", "amended": "THE RESULTS HAVE BEEN AMENDED. "}
-    declared = said[words.text("declared")] if "declared" in words.values else ""
+    declared = f"{DECLARED[words.text('declared')]} " if "declared" in words.values else ""
     return f"{declared}RACE {words.text('race')} COUNTS ALREADY. Is this a correction?"
 
 
@@ -264,6 +271,7 @@ WORDS: dict[str, Callable[[Words], str]] = {
     "enter-listed": of_listed, "enter-near": of_near, "enter-unlisted": of_unlisted,
     "score-unknown": of_unknown, "score-only-codes": of_codes, "score-penalised": of_penalties,
     "score-missing": of_missing, "score-sheet": of_sheet, "score-sheet-fault": of_sheet_fault, "unscore": of_unscore, "correction": of_correction,
+    "declared": of_declared,
     "clear-several": of_clear, "redress-unplaced": of_redress, "abandon": of_abandoning,
     "clear-sheet": of_clearing,
     "place-is": of_place, "place-unanswered": of_unanswered, "finished-after": of_finished_after,

@@ -52,21 +52,24 @@ class Seat:
         self.sent: dict[int, str] = {}
         self.at: int | None = None
         self.link: Link | None = None
+        # Whether the office was closed for good when it went.
+        self.is_closed = False
         # The seat's number is that of its entries in the journal.
         self.prefix = self.number = self.unanswered = ""
         self.answered = False
 
     # The office
 
-    def connect(self) -> None:
-        """Links to the office, in the role of this seat."""
-        self.link, self.number = self.folder.link(), ""
+    def connect(self, link: Link | None = None) -> None:
+        """Links to the office, in the role of this seat, perhaps by a link that is there."""
+        self.link, self.number = link or self.folder.link(), ""
         try:
             self.link.ask(f"ROLE {self.role}")
             # series.ini may have rules that wait.
             self.folder.settings = self.facts.settings = settings_in_force(self.folder)
             self.look()
-        except Trouble:
+            self.is_closed = False
+        except (Trouble, KeyboardInterrupt):
             self.disconnect()
             raise
 
@@ -77,9 +80,10 @@ class Seat:
         return self.link
 
     def disconnect(self) -> None:
-        if self.link:
-            self.link.close()
-        self.link = None
+        # Ctrl-C may come at any moment: no link is there that is closed.
+        link, self.link = self.link, None
+        if link:
+            link.close()
 
     def exchange(self, line: str, unread: Unread | None = None) -> str:
         """The office's answer to a line, which is logged before anything else is done. `unread` is the
@@ -120,10 +124,7 @@ class Seat:
             if (unread.race, unread.mark) in self.history.ended:
                 how = self.history.end(unread.race, unread.mark)
                 self.say_of("place-ended" if "why" in how else "place-known", **how)
-        if followed := self.twins.follow(self.history, self.places.by):
-            for what, values in followed:
-                self.say_of(what, **values)
-            self.look_at_places()
+        self.follow_twins()
 
     @contextlib.contextmanager
     def as_it_is(self) -> Iterator[None]:
@@ -139,6 +140,13 @@ class Seat:
     def look_at_journal(self) -> None:
         """Reads journal and table as they are now."""
         self.facts.read(self.office().sheet())
+
+    def follow_twins(self) -> None:
+        """Makes the places of those agree who are kept in other classes, too."""
+        if followed := self.twins.follow(self.history, self.places.by):
+            for what, values in followed:
+                self.say_of(what, **values)
+            self.look_at_places()
 
     def look_at_places(self) -> None:
         """Reads the places that are kept. If that can't be, those stay that were known."""
@@ -207,10 +215,14 @@ class Seat:
             race = Race(race.number, [[sail] for sail in ahead])
         mark = self.places.keep(race, typed, len(self.facts.sheet.journal), twin, later)
         self.look_at_places()
-        # What is on the disk may not be readable just then: she is kept all the same.
-        kept = next((unread for unread in self.unread.of(race.number) if unread.mark == mark), None)
-        self.done = Done(unread=kept, what="kept", why="" if kept else remark("places-unread"))
+        self.note_kept(race.number, mark)
         return mark
+
+    def note_kept(self, race: int, mark: str) -> None:
+        """Notes what was done last: a place was kept."""
+        # What is on the disk may not be readable just then: she is kept all the same.
+        kept = next((unread for unread in self.unread.of(race) if unread.mark == mark), None)
+        self.done = Done(unread=kept, what="kept", why="" if kept else remark("places-unread"))
 
     def drop(self, waiting: list[Unread], why: str) -> None:
         """Keeps places no longer."""

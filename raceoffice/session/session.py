@@ -111,8 +111,9 @@ class Session(Seat):
 
     @property
     def may_keep(self) -> bool:
-        """Whether somebody who crosses the line now can be kept without a sail."""
-        return (self.at is not None and self.link is not None and "FINISH" in MAY[self.role]
+        """Whether somebody who crosses the line now can be kept without a sail: also while the office is away, unless it
+        was closed for good."""
+        return (self.at is not None and not self.is_closed and "FINISH" in MAY[self.role]
                 and not self.folder.settings.handicap)
 
     def crossed(self, typed: str) -> str:
@@ -125,3 +126,9 @@ class Session(Seat):
         before = self.done
         self.look()
         return self.outcome_since(before, keep(self, self.race, sail, twin=twin))
+
+    def take_over_kept(self, mark: str) -> None:
+        """Takes over a place that was kept while the office is away."""
+        self.look_at_places()
+        self.note_kept(self.at or 0, mark)
+        self.say_of("place-kept", mark=mark, why="")

@@ -12,7 +12,7 @@ from raceoffice.series.kept_places import History
 from raceoffice.series.line_order import LineOrder
 from raceoffice.series.lost_lines import as_kept
 from raceoffice.series.unknown_finishers import Unread
-from raceoffice.session.dialogue import NOTE
+from raceoffice.session.dialogue import NOTE, WARNING
 from raceoffice.session.facts import Facts
 from raceoffice.session.finishers import need_room, send_known
 from raceoffice.session.parse import FINISHING, MAY
@@ -148,14 +148,27 @@ def undo_place(seat: Seat, unread: Unread, what: str) -> bool:
     kind = "drop-place" if what == "kept" else "keep-place-again"
     if not seat.is_yes(seat.question(kind, race=unread.race, mark=unread.mark)):
         return seat.not_sent()
-    if what == "kept":
+    is_dropped = what == "kept"
+    if is_dropped:
         seat.drop([unread], "undone")
     else:
         seat.keep_again(unread)
-    seat.done = Done(unread=unread, what="dropped" if what == "kept" else "kept")
-    is_dropped = what == "kept"
+    seat.done = Done(unread=unread, what="dropped" if is_dropped else "kept")
     seat.tell(said("place-dropped" if is_dropped else "place-kept-again", NOTE, str, "", mark=unread.mark))
+    if is_dropped:
+        drop_twins(seat, unread)
+    else:
+        seat.follow_twins()
     return True
+
+
+def drop_twins(seat: Seat, unread: Unread) -> None:
+    """Drops the other places of a finisher who never was. If hers is kept again, so are those."""
+    for place, why in seat.twins.drop_others(seat.history, (unread.race, unread.mark), seat.places.by):
+        if why:
+            seat.say_of("still-kept", WARNING, fault=why, marks=[place.kept.place])
+        else:
+            seat.say_of("twin-dropped", class_name=place.folder.name, mark=place.kept.place)
 
 
 def reversal(facts: Facts, number: int, history: History) -> str:

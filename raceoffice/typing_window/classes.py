@@ -97,18 +97,24 @@ def class_named(sessions: list[Session], words: list[str]) -> Session | None:
     """The class that the first word names by its first letters, unless it begins a line or a boat."""
     first = words[0].lower()
     named = [session for session in sessions if session.folder.name.lower().startswith(first)]
-    named = [session for session in named if session.folder.name.lower() == first] or named
+    named = [session for session in named if session.folder.name.lower() == first] or (
+        [] if is_like_a_sail(words) else named)
     is_boat = any("".join(words).upper() in session.facts.boats for session in sessions)
     if len(named) != 1 or len(words) == 1 or words[0].upper() in FIRST or is_boat:
         return None
     return named[0]
 
 
+def is_like_a_sail(words: list[str]) -> bool:
+    """Whether a line begins as a sail does, by three letters of a nation and a number."""
+    return len(words[0]) == 3 and words[0].isalpha() and words[1:2] != [] and words[1][0].isdigit()
+
+
 def short(session: Session, sessions: list[Session]) -> str:
-    """The fewest first letters of a folder that name this class alone."""
+    """The fewest first letters of a folder that name this class alone; but not three, as a nation has."""
     name = session.folder.name
     others = [other.folder.name.lower() for other in sessions if other is not session]
-    heads = [name[:at].lower() for at in range(1, len(name))]
+    heads = [name[:at].lower() for at in range(1, len(name)) if at != 3]
     return next((head for head in heads if head.upper() not in FIRST and " " not in head
                  and not any(other.startswith(head) for other in others)), name)
 

@@ -9,6 +9,7 @@ import time
 
 from raceoffice import system
 from raceoffice.errors import Trouble
+from raceoffice.program.link import PATIENCE, Link
 from raceoffice.session.session import Session
 from raceoffice.terminal import say, sentence
 from raceoffice.traces import guarded
@@ -25,8 +26,9 @@ try:
 except ImportError:
     readline = None  # type: ignore[assignment]
 
-# Seconds between two looks, and between two tries at an office whose seats are all taken.
-LOOK, AGAIN = 0.5, 5.0
+# Seconds between two looks, and between two tries at an office whose seats are all taken, or that doesn't answer; and those
+# that one has for an answer.
+LOOK, AGAIN, SOON = 0.5, 5.0, 3.0
 
 
 class News(Exception):
@@ -39,6 +41,10 @@ class Watcher(threading.Thread):
     def __init__(self, sessions: list[Session]) -> None:
         super().__init__(daemon=True)
         self.sessions, self.half, self.not_before = sessions, "", 0.0
+        # The line of this prompt, once its Enter was taken.
+        self.typed: list[str] = []
+        # The links to offices that have come back, until the window takes them.
+        self.reached: dict[Session, Link] = {}
         # What of the offices' windows was said here.
         self.told: dict[Session, str] = {}
         self.faults: set[str] = set()
@@ -51,28 +57,39 @@ class Watcher(threading.Thread):
         """A line from the prompt, at which it may be interrupted. What was typed by then is kept,
         and is there again at the next prompt."""
         self.prompts += 1
+        self.typed.clear()
         self.begun, self.at_prompt = False, True
         if readline:
             readline.set_startup_hook(self.begin)
         try:
-            typed = input(prompt)
+            # The line is noted before Python does anything else: no signal comes between.
+            self.typed.extend(map(input, [prompt]))
+        except SystemError as fault:
+            # Python makes one of Ctrl-C, or of news, that comes with another signal.
+            raise fault.__cause__ or fault from None
         finally:
             self.at_prompt = False
             if readline:
                 readline.set_startup_hook(None)
+        typed, self.half = self.typed[0], "" if self.begun else self.half
         if readline and typed:
             readline.add_history(typed)
         return typed
 
     def begin(self) -> None:
         """Begins the line at the prompt with what is left of the one before."""
-        self.begun = True
-        readline.insert_text(self.half)
-        self.half = ""
+        # Readline takes no notice of what is raised here, as by Ctrl-C.
+        self.at_prompt = False
+        half, self.half = self.half, ""
+        try:
+            readline.insert_text(half)
+        finally:
+            self.begun = self.at_prompt = True
 
     def interrupt(self) -> None:
-        # The prompt that is meant may have been answered, and another come, before the signal.
-        if self.at_prompt and self.prompts == self.interrupted:
+        # The prompt that is meant may have been answered, and another come, before the signal. News that comes with the
+        # Enter is told at the next prompt.
+        if self.at_prompt and self.prompts == self.interrupted and not self.typed:
             self.at_prompt = False
             self.half = readline.get_line_buffer() if self.begun else self.half
             raise News
@@ -132,9 +149,38 @@ class Watcher(threading.Thread):
         return found
 
     def is_back(self) -> bool:
-        """Whether an office that has gone is there again."""
+        """Whether an office that has gone is there again, and answers."""
         return time.monotonic() > self.not_before and any(
-            session.link is None and is_open(session) for session in self.sessions)
+            session.link is None and self.is_reached(session) for session in self.sessions)
+
+    def is_reached(self, session: Session) -> bool:
+        """Whether an office answers. One that hangs is waited for here, and not by the window, which goes on with others."""
+        if session.folder.is_closing():
+            self.let_go(session)
+        elif session not in self.reached and is_open(session):
+            self.reach(session)
+        return session in self.reached
+
+    def reach(self, session: Session) -> None:
+        """Links to an office that has gone, if it answers."""
+        try:
+            link = session.folder.link(SOON)
+        except Trouble:
+            self.wait()
+            return
+        try:
+            link.ask(f"ROLE {session.role}")
+        except Trouble:
+            link.close()
+            self.wait()
+            return
+        link.wait_for(PATIENCE)
+        self.reached[session] = link
+
+    def let_go(self, session: Session) -> None:
+        """Leaves an office that is being closed."""
+        if link := self.reached.pop(session, None):
+            link.close()
 
     def wait(self) -> None:
         """Leaves offices without a free seat alone for a while: each try counts as a client there."""

@@ -9,15 +9,16 @@ from collections.abc import Callable, Iterable, Sequence
 from dataclasses import dataclass
 
 from raceoffice import characters, system
-from raceoffice.characters import quoted
+from raceoffice.characters import in_one_form, quoted
 from raceoffice.decisions.points import Decided, decided
 from raceoffice.errors import ForeignPage, NoTable, Trouble, Unsure
 from raceoffice.files import opened_at_once
+from raceoffice.program.explanation import explanation_of
 from raceoffice.program.journal import Series
 from raceoffice.program.link import Sheet
 from raceoffice.program.messages import refusal
-from raceoffice.program.replay import developed, digest_of, nets_before_exclusion, scored
-from raceoffice.program.standing import Ranks, Standing
+from raceoffice.program.replay import digest_of, scored
+from raceoffice.program.standing import Standing
 from raceoffice.results.html import page
 from raceoffice.results.html.listing import listing
 from raceoffice.results.html.notice_board import results
@@ -27,7 +28,7 @@ from raceoffice.results.html.sealing import Carried, seal_words
 from raceoffice.results.snapshot import Snapshot, labelled, labels_of, looking_alike, told_apart
 from raceoffice.series.entry_list import Boat
 from raceoffice.series.settings import Settings, rows_of, settings_of
-from raceoffice.terminal import Progress, as_put_out, put_out, say_json, sentence, width
+from raceoffice.terminal import as_put_out, put_out, say_json, sentence, width
 from raceoffice.traces import guarded
 from raceoffice.verify import page_data
 from raceoffice.verify.own_words import USUAL, explained, laid_out, stale
@@ -39,6 +40,12 @@ CONFIRMED = re.compile('<!DOCTYPE html>\n<html lang="en" data-live="(?:yes|no)" 
                        'data-checked="([0-9T:+-]{0,40})" data-office="([a-z0-9:,]{0,500})" ')
 LARGEST = 64 << 20
 PLAIN_NAME = re.compile(r"[\w./~+-]+")
+# A row of an overall table has two at least: the net and a score.
+LIKE_POINTS = re.compile(r"\d[.,]\d")
+# Helm, boat and club that have more letters fill a line of a browser of texts, so that they go on where the next row begins.
+LONG = 80
+# The words of a text, and its commas. A sail of so many words at most ends at a comma in a row of a table.
+WORDS, SAIL_WORDS = re.compile(r"[^\s,]+|,"), 3
 # Signs of a message about what differs. A page that is longer than the right one by this many isn't taken
 # apart to find the first cell that differs.
 MESSAGE, LONGER = 400, 1 << 16
@@ -89,23 +96,23 @@ class Verifier:
         """The series of a page. ForeignPage if their tables are longer than the page."""
         views, cells = list[Snapshot](), 0
         for carried in kept.series:
-            views.append(self.view(carried, kept.kind == "results"))
+            views.append(self.view(carried))
             cells += len(views[-1].standing.rows) * len(views[-1].standing.races)
             if kept.kind in WITH_TABLES and cells * CELL > length:
                 raise ForeignPage("it is shorter than the tables of its series are")
         return tuple(views)
 
-    def view(self, carried: Carried, with_course: bool) -> Snapshot:
+    def view(self, carried: Carried) -> Snapshot:
         """A series as the program scores it."""
-        key = repr((carried, with_course))
+        key = repr(carried)
         if key not in self.views:
             self.need_time()
             if len(self.views) >= SCORED:
                 self.views.clear()
-            self.views[key] = self.fresh_view(carried, with_course)
+            self.views[key] = self.fresh_view(carried)
         return self.views[key]
 
-    def fresh_view(self, carried: Carried, with_course: bool) -> Snapshot:
+    def fresh_view(self, carried: Carried) -> Snapshot:
         shown = settings_of({**carried.settings, "every": str(carried.stamp.every)})
         journal = list(carried.journal)
         sheet = self.sheet(shown, journal)
@@ -114,27 +121,12 @@ class Verifier:
         self.need_time()
         found = self.decided(options, journal, text)
         self.need_time()
-        is_excluded = any(score.excluded for row in standing.rows for score in row.scores)
-        totals = nets_before_exclusion(self.program, options, journal) if is_excluded else {}
-        course = self.course(options, journal, standing) if with_course else ()
+        why = explanation_of(self.program, options, journal, standing)
         changed = moment_of(carried.stamp.changed)
         assert changed is not None
         return Snapshot(carried.name, shown, labelled(standing, found.labels),
-                    Series.read(list(sheet.journal)), carried.names(), totals, changed, None,
-                    carried.journal, found, carried.program, course, carried.stamp.when)
-
-    def course(self, options: list[str], journal: list[str], standing: Standing) -> tuple[Ranks, ...]:
-        """The ranks after each race. Meanwhile the terminal shows no word of the page."""
-        progress = Progress("Scoring again")
-
-        def tell(done: int, whole: int) -> None:
-            self.need_time()
-            progress(done, whole)
-
-        try:
-            return developed(self.program, options, journal, standing.races, tell)
-        finally:
-            progress.end()
+                    Series.read(list(sheet.journal)), carried.names(), why, changed, None,
+                    carried.journal, found, carried.program, carried.stamp.when)
 
     def decided(self, options: list[str], journal: list[str], text: str) -> Decided:
         """What the decisions come to. If the program can't be run, nothing can be said of them."""
@@ -226,7 +218,7 @@ def compare_tables(rebuilt: Rebuilt, ask: Callable[[], None]) -> None:
 
 def sail_cell(boat: Boat) -> str:
     """The text of a boat's cell with her sail in an overall table, which no other boat has: her sail ends at the comma."""
-    return " ".join(", ".join(text for text in (boat.sail, boat.helm or boat.name) if text).split())
+    return " ".join((boat.sail + ", " + page.named(boat.helm or boat.name)).split())
 
 
 def first_difference(text: str, wanted: str, ask: Callable[[], None]) -> str:
@@ -295,7 +287,19 @@ def bewares(view: Snapshot) -> list[str]:
     texts += rows_of(view.decided.text)
     odd = [f"{quoted(text)} has a sign that isn't seen, or that turns, strikes or pushes others"
            for text in texts if characters.has_odd(text)]
-    return [*first_ones(stale(view.decided), "decisions"), *first_ones(odd, "texts")]
+    names = [" ".join(filter(None, (boat.helm, boat.name, boat.club))) for boat in view.boats.values()]
+    sails = set(view.boats)
+    rows = [f"{quoted(text)} is long, or has a sail or points as a table has them, and may be taken for a row of it where lines "
+            "are broken" for text in names if len(text) > LONG or is_like_a_row(in_one_form(text).upper(), sails)]
+    return [*first_ones(stale(view.decided), "decisions"), *first_ones(odd, "texts"), *first_ones(rows, "names")]
+
+
+def is_like_a_row(text: str, sails: set[str]) -> bool:
+    """Whether names have several numbers as points are, or a boat's sail with a comma behind it."""
+    words = WORDS.findall(text)
+    has_sail = any("".join(words[max(0, at - back):at]) in sails for at, word in enumerate(words) if word == ","
+                   for back in range(1, SAIL_WORDS + 1))
+    return has_sail or len(LIKE_POINTS.findall(text)) > 1
 
 
 def first_ones(texts: list[str], called: str) -> list[str]:

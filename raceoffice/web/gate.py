@@ -96,6 +96,8 @@ class Gate:
         self.hosts = {*(host.lower() for host in hosts), *addresses(), "localhost", "127.0.0.1", "::1", own,
                       f"{own}.local"}
         self.keys: dict[str, str] = {}
+        # Other secrets of roles, by each of which one device comes in. No file has them.
+        self.once: dict[str, str] = {}
         self.devices: dict[str, Device] = {}
         # The names of the last devices that were put out, by their marks: each stays that of its device.
         self.out: dict[str, str] = {}
@@ -147,12 +149,12 @@ class Gate:
     def changing(self) -> Iterator[None]:
         """While secrets or devices are changed. If the file can't be written, all is as it was."""
         with self.lock:
-            keys, devices, out = dict(self.keys), dict(self.devices), dict(self.out)
+            held = dict(self.keys), dict(self.once), dict(self.devices), dict(self.out)
             try:
                 yield
                 self.write()
             except Trouble:
-                self.keys, self.devices, self.out = keys, devices, out
+                self.keys, self.once, self.devices, self.out = held
                 raise
             self.told_out()
 
@@ -172,9 +174,17 @@ class Gate:
         with self.changing():
             need()
             self.keys[role] = hashed(secret)
+            self.once.pop(role, None)
             if are_devices_out:
                 self.put_out([mark for mark, device in self.devices.items() if device.role == role])
         self.coming.forget(role)
+        return secret
+
+    def key_for_one(self, role: str) -> str:
+        """A secret beside that of a role's link, which goes on: one device comes in by it, and then nobody."""
+        secret = secrets.token_urlsafe(16)
+        with self.lock:
+            self.once[role] = hashed(secret)
         return secret
 
     def put_out(self, marks: Iterable[str]) -> None:
@@ -193,14 +203,15 @@ class Gate:
             self.put_out([device.mark for device in found])
             for device in found if ends_link else ():
                 self.keys.pop(device.role, None)
+                self.once.pop(device.role, None)
 
     def enter(self, request: Request, role: str, secret: str, name: str) -> tuple[str, str]:
         """The cookie of a device that shows the secret of a role, and its name. If another has that already it gets a
         number, so that a name is that of one device."""
         cookie, cookie_name, now = secrets.token_urlsafe(32), self.cookie_name(role), self.clock.now()
         with self.changing():
-            held = self.keys.get(role, "")
-            if not held or not same(held, hashed(secret)):
+            is_link, is_for_one = (same(keys.get(role, ""), hashed(secret)) for keys in (self.keys, self.once))
+            if not (is_link or is_for_one):
                 # Whoever has the link comes in, however many try others from the same address.
                 self.entering.take(request.address)
                 raise Wrong(403, "this link isn't valid any more: ask for a new one", "link-ended")
@@ -214,6 +225,8 @@ class Gate:
                             request.address)
             self.devices[device.mark] = device
             self.out = {mark: name for mark, name in self.out.items() if mark not in own}
+            if is_for_one:
+                del self.once[role]
         secure = "; Secure" if self.is_secure else ""
         return (f"{cookie_name}={cookie}; Path=/office/{role.lower()}; Max-Age={LONG}; HttpOnly; "
                 f"SameSite=Strict{secure}"), device.name

@@ -214,12 +214,16 @@ class Crowd:
 
     def take_first(self) -> asyncio.Task[None]:
         """The one that is given up first, which is no part of the crowd any more: the first silent one if that isn't young,
-        else a stranger's, else one of the device that has most, if it has many or nobody is silent."""
+        else one of the device that has most, if it has many and more than there are strangers, else a stranger's. Without
+        strangers it is that device's, too, if nobody is silent."""
         is_old = bool(self.silent) and time.monotonic() - next(iter(self.silent.values())) >= YOUNG
-        found = self.silent if is_old else self.strangers
-        if not found:
-            most = max(self.devices.values(), key=len, default=self.silent)
-            found = most if len(most) > FEW or not self.silent else self.silent
+        most = max(self.devices.values(), key=len, default=self.silent)
+        if is_old:
+            found = self.silent
+        elif self.devices and len(most) > max(FEW, len(self.strangers)):
+            found = most
+        else:
+            found = self.strangers or self.silent or most
         visit = next(iter(found))
         self.is_removed(visit)
         return visit
@@ -290,6 +294,8 @@ class Host:
         self.visits: dict[str, Crowd] = {}
         self.watching: collections.Counter[str] = collections.Counter()
         self.turns, self.heads = Rate(AT_ONCE, EACH_SECOND), Queues()
+        # What comes is taken by this: all connections have one thread, which hands it on before it takes the next.
+        self.piece = memoryview(bytearray(HEAD))
         self.letting_in: asyncio.Task[None] | None = None
 
     async def start(self, address: str, port: int, secure: ssl.SSLContext | None) -> None:
@@ -376,7 +382,7 @@ class Host:
     async def visit(self, link: socket.socket, address: str, secure: ssl.SSLContext | None) -> None:
         """One connection, from its first request to its end."""
         try:
-            reader, writer = await streams_of(link, secure)
+            reader, writer = await streams_of(link, secure, self.piece)
             try:
                 while await self.is_going_on(reader, writer, address):
                     pass
@@ -394,6 +400,15 @@ class Host:
         finally:
             link.close()
 
+    async def turn(self, name: str) -> None:
+        """Waits for the turn of one request. A connection that is given up meanwhile has taken none: who comes after many
+        that have gone doesn't wait for them."""
+        try:
+            await asyncio.sleep(self.turns.pause(name))
+        except asyncio.CancelledError:
+            self.turns.give_back(name)
+            raise
+
     async def is_going_on(self, reader: asyncio.StreamReader, writer: asyncio.StreamWriter,
                           address: str) -> bool:
         """Answers one request; whether another may follow."""
@@ -405,7 +420,7 @@ class Host:
             request = request_of(head, address)
             request = await with_body(reader, writer, request, self.room(request))
         except Wrong as wrong:
-            await asyncio.sleep(self.turns.pause(address))
+            await self.turn(address)
             await send(writer, bytes_of(wrong.reply(), True, False))
             return False
         # However many requests have come already, those of others have their turn in between. Strangers don't take the
@@ -413,7 +428,7 @@ class Host:
         device = self.device(request)
         if not self.is_learnt(address, device or STRANGER):
             return False
-        await asyncio.sleep(self.turns.pause(device or address))
+        await self.turn(device or address)
         try:
             reply = await self.answer(request)
         except Wrong as wrong:
@@ -453,11 +468,26 @@ class Host:
                 del self.watching[name]
 
 
-async def streams_of(link: socket.socket,
-                     secure: ssl.SSLContext | None) -> tuple[asyncio.StreamReader, asyncio.StreamWriter]:
+class InPieces(asyncio.StreamReaderProtocol, asyncio.BufferedProtocol):
+    """Hands on what comes piece by piece. Whatever a client sends in advance, three of them are held at most: by itself asyncio
+    takes 256 KB at once."""
+
+    def __init__(self, reader: asyncio.StreamReader, piece: memoryview) -> None:
+        super().__init__(reader)
+        self.piece = piece
+
+    def get_buffer(self, sizehint: int) -> memoryview:
+        return self.piece
+
+    def buffer_updated(self, nbytes: int) -> None:
+        self.data_received(bytes(self.piece[:nbytes]))
+
+
+async def streams_of(link: socket.socket, secure: ssl.SSLContext | None,
+                     piece: memoryview) -> tuple[asyncio.StreamReader, asyncio.StreamWriter]:
     """What comes by a connection, and what is sent by it, once its handshake is over if it has one."""
     loop, reader = asyncio.get_running_loop(), asyncio.StreamReader(HEAD)
-    protocol = asyncio.StreamReaderProtocol(reader)
+    protocol = InPieces(reader, piece)
     transport, _ = await loop.connect_accepted_socket(
         lambda: protocol, link, ssl=secure, ssl_handshake_timeout=HANDSHAKE if secure else None)
     return reader, asyncio.StreamWriter(transport, protocol, reader, loop)

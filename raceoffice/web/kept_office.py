@@ -19,6 +19,7 @@ from raceoffice.series.folder import Folder, Lock, clock
 from raceoffice.series.health import disk_fault, faults, journal_fault, notes, summary
 from raceoffice.series.remove_boat import also_changed, moves_without, removal_of, take_out
 from raceoffice.series.run_program import settings_in_force
+from raceoffice.series.windows import TYPING, Presence
 from raceoffice.session.dialogue import Question
 from raceoffice.session.question_words import question
 from raceoffice.terminal import sentence
@@ -34,6 +35,8 @@ LOOK, TIMES, LONG = 0.2, 3, 600.0
 SOON, LATE = 1.0, 60.0
 # How many of an office's words are kept for the scorer's page.
 SAID = 60
+# What the window of an office is shown of the devices that may write.
+DEVICES = "devices in browsers"
 
 
 class KeptOffice:
@@ -45,6 +48,8 @@ class KeptOffice:
         self.said: collections.deque[tuple[str, int]] = collections.deque(maxlen=SAID)
         self.lock = threading.Lock()
         self.keeping: Keeping | None = None
+        # What shows to an office's window that devices may write.
+        self.presence: Presence | None = None
         self.opened: list[float] = []
         self.is_asked_to_close, self.is_hurried, self.is_ended = False, False, threading.Event()
         # Whether an office that is asked to close is opened again at once.
@@ -74,6 +79,16 @@ class KeptOffice:
     def has_window(self) -> bool:
         """Whether this process keeps the office, or a window does. If that has gone, nobody copies the journal."""
         return self.keeping is not None or self.folder.has_window()
+
+    def show_devices(self, are_any: bool) -> None:
+        """Shows to the window that keeps the office that devices may write, or that none may: it asks before it closes the
+        office. Nothing is shown of an office that this process keeps."""
+        if are_any and self.keeping is None and self.folder.has_window():
+            if self.presence is None:
+                self.presence = Presence(self.folder, TYPING, DEVICES, "web")
+        elif self.presence:
+            self.presence.close()
+            self.presence = None
 
     def takes_lines(self) -> bool:
         """Whether this process keeps an office that isn't being closed for good."""

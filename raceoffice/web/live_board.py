@@ -16,7 +16,7 @@ from raceoffice.series.run_program import rules_in_force
 from raceoffice.terminal import Once, sentence
 from raceoffice.traces import guarded
 from raceoffice.web.room import Room
-from raceoffice.web.side_by_side import SideBySide
+from raceoffice.side_by_side import SideBySide
 
 # Seconds between two looks at whether something has changed, and after which a class whose look doesn't end is away.
 TICK, AWAY = 0.1, 10.0

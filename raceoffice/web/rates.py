@@ -41,6 +41,11 @@ class Rate:
         self.left[name] = (left, now)
         return max(0.0, -left / self.each_second)
 
+    def give_back(self, name: str) -> None:
+        """Gives a try back that wasn't used after all."""
+        now = self.now()
+        self.left[name] = (min(self.most, self.left_of(name, now) + 1), now)
+
     def forget(self, name: str) -> None:
         """Gives somebody all tries again."""
         self.left.pop(name, None)

@@ -48,8 +48,9 @@ QUICK, SMALLEST = 4, 9
 JSON = "application/json"
 # Replies with fewer bytes aren't packed.
 LEAST_PACKED = 1000
-# How many of the last replies stay packed.
-PACKED = 128
+# How many of the last replies stay packed; and of those with more bytes than this, as states of a class with many boats and
+# races, of which there is another after each tap.
+PACKED, PACKED_LONG, LONG = 128, 8, 64 << 10
 
 
 # Why a request isn't done, as a fixed word that pages translate, if nothing more is known.
@@ -160,13 +161,20 @@ def packed(request: Request, reply: Reply) -> Reply:
     if len(reply.data) < LEAST_PACKED or not request.takes_gzip or reply.is_ready:
         return reply
     fields = {**reply.fields, "Content-Encoding": "gzip", "Vary": "Accept-Encoding"}
-    level = SMALLEST if reply.is_part else QUICK
-    return Reply(reply.status, reply.kind, zipped(reply.data, level), fields, is_part=reply.is_part)
+    zipped = zipped_short if len(reply.data) <= LONG else zipped_long
+    data = zipped(reply.data, SMALLEST if reply.is_part else QUICK)
+    return Reply(reply.status, reply.kind, data, fields, is_part=reply.is_part)
 
 
 @functools.lru_cache(PACKED)
-def zipped(data: bytes, level: int) -> bytes:
+def zipped_short(data: bytes, level: int) -> bytes:
     """These bytes, packed once for all who ask for them."""
+    return gzip.compress(data, level, mtime=0)
+
+
+@functools.lru_cache(PACKED_LONG)
+def zipped_long(data: bytes, level: int) -> bytes:
+    """The same of many bytes, of which a few stay."""
     return gzip.compress(data, level, mtime=0)
 
 

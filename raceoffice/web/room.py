@@ -13,7 +13,7 @@ from collections.abc import Callable, Iterator, Sequence
 
 from raceoffice import system
 from raceoffice.errors import Lost, NoSeat, NotNow, NotSent, Served, Trouble, as_trouble
-from raceoffice.files import PRIVATE, PRIVATE_MODE, replace_whole, text_if_any
+from raceoffice.files import PRIVATE, PRIVATE_MODE, replace_whole, stamp_of, text_if_any
 from raceoffice.program.journal import Race
 from raceoffice.program.link import Link, Sheet
 from raceoffice.program.standing import Standing
@@ -583,14 +583,6 @@ def is_gone(sent: Sent, history: History) -> bool:
     is_dropped = ended is not None and ended.what == "dropped"
     is_as_said = is_dropped if sent.line.endswith(DROPPED) else key in history.kept and not is_dropped
     return sent.id not in history.taps and not is_as_said
-
-
-def stamp_of(path: str) -> object:
-    """What is another whenever a file is; None if there is none."""
-    with contextlib.suppress(OSError):
-        found = os.stat(path)
-        return found.st_mtime_ns, found.st_size
-    return None
 
 
 def heard(link: Link) -> bytes | None:

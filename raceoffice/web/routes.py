@@ -1,12 +1,14 @@
 """What each address of the office does, for which role."""
 from __future__ import annotations
 
+import collections
 import contextlib
 import functools
 import json
 import os
 import re
 import secrets
+import threading
 import time
 from collections.abc import Callable, Iterator
 from typing import Any
@@ -35,7 +37,7 @@ from raceoffice.web.kept_office import KeptOffice
 from raceoffice.web.requests import JSON, Reply, Request, Wrong, reply_of, tag_of, tagged
 from raceoffice.web.room import Room
 from raceoffice.web.rulings import one_line
-from raceoffice.web.side_by_side import SideBySide
+from raceoffice.side_by_side import SideBySide
 from raceoffice.web.states import Values, question_of, remarks_of, said_of
 from raceoffice.web.tap_session import Asked
 from raceoffice.web.taps import LATEST, NoTap, Tap, agreed_in
@@ -53,7 +55,7 @@ FOR_ALL, FOR_TAPS, FOR_MUCH, FOR_LISTS = 4 << 10, 16 << 10, 256 << 10, 5 << 20
 # What each role sends to an address that takes more than a tap has.
 ROOMS = {("JURY", "decide"): FOR_MUCH, ("SCORER", "list"): FOR_LISTS, ("SCORER", "new"): FOR_LISTS} | {
     ("SCORER", name): FOR_MUCH
-    for name in ("correct", "declare", "open", "remove", "reopen", "rules", "save", "settings", "sheet")}
+    for name in ("correct", "declare", "line", "open", "remove", "reopen", "rules", "save", "settings", "sheet")}
 # What a line of each role may begin with beside the lines that it sends.
 OWN = {"UNDO", "ABANDON"}
 
@@ -88,6 +90,8 @@ class Routes:
         self.workers = Workers()
         self.files = static_files()
         self.states: dict[tuple[str, bool], tuple[int, bytes]] = {}
+        # Who makes one: others who ask for it meanwhile get the same.
+        self.making: dict[tuple[str, bool], threading.Lock] = collections.defaultdict(threading.Lock)
         # What all classes are asked, of which one may hang
         self.offices, self.settings = SideBySide[Values](), SideBySide[Settings | None]()
 
@@ -271,11 +275,12 @@ class Routes:
     def state(self, request: Request, role: str, room: Room) -> Reply:
         """The state of a class, made once for all who ask."""
         key, version = (room.folder.name, role != "FINISH"), room.version
-        held = self.states.get(key)
-        if held is None or held[0] != version:
-            data = json.dumps(room.state(key[1]), ensure_ascii=False, separators=(",", ":"))
-            held = (version, data.encode("utf-8", "replace"))
-            self.states[key] = held
+        with self.making[key]:
+            held = self.states.get(key)
+            if held is None or held[0] != version:
+                data = json.dumps(room.state(key[1]), ensure_ascii=False, separators=(",", ":"))
+                held = (version, data.encode("utf-8", "replace"))
+                self.states[key] = held
         return tagged(request, JSON, held[1])
 
     def rulings(self, room: Room) -> Reply:
@@ -465,7 +470,13 @@ class Routes:
 
     def link(self, role: str, are_devices_out: bool = True, need: Callable[[], None] = lambda: None) -> str:
         """A new link of a role, which is shown once."""
-        secret = self.gate.new_key(role, are_devices_out, need)
+        return self.address_with(role, self.gate.new_key(role, are_devices_out, need))
+
+    def link_for_one(self, role: str) -> str:
+        """A link by which one device of a role comes in; the link of all others goes on."""
+        return self.address_with(role, self.gate.key_for_one(role))
+
+    def address_with(self, role: str, secret: str) -> str:
         return f"{self.office.address}office/in#{role.lower()}.{secret}"
 
     def open(self, request: Request, need: Callable[[], None], room: Room) -> Reply:
@@ -597,12 +608,14 @@ def worker_of(files: dict[str, tuple[str, bytes]]) -> bytes:
 
 
 def shorter(kind: str, data: bytes) -> bytes:
-    """A script or a style without its comments, and scripts, styles and texts without the space before their lines: phones
-    load them over weak lines."""
+    """A script or a style without its comments, and scripts, styles and texts without the space before their lines, and styles
+    without some of the others: phones load them over weak lines."""
     if kind not in (KINDS[".js"], KINDS[".css"], JSON):
         return data
     if kind == KINDS[".css"]:
         data = re.sub(rb"/\*.*?\*/", b"", data, flags=re.DOTALL)
+        # Spaces after a colon and before a brace, and the last semicolon of a rule
+        data = re.sub(rb"(?<=:) | (?={)|; (?=})", b"", data)
     lines = [line.strip() for line in data.splitlines()]
     return b"\n".join(line for line in lines if line and not line.startswith(b"//")) + b"\n"
 

@@ -177,7 +177,7 @@ def need_finish(session: TapSession, sent: Sent) -> None:
 def note_tapped_too(session: TapSession, line: str) -> None:
     """Notes that a device has tapped a boat who has another finish in the sheet: her undo is asked about. Once is
     enough."""
-    last = next((one for one in session.register.all_reversed()
+    last = next((one for one in session.register.with_refused_reversed()
                  if "/" not in one.id.removesuffix("/too") and finisher_of(one.line) == finisher_of(line)), None)
     if last and (last.by != session.name or not last.answer.startswith("NO ")):
         session.register.refuse(session.sent_now(f"{session.tap.id}/too", line))

@@ -10,7 +10,7 @@ from raceoffice.characters import is_utf8
 from raceoffice.errors import NotSent, Trouble
 from raceoffice.remarks import remark
 from raceoffice.series import settings
-from raceoffice.web.side_by_side import SideBySide
+from raceoffice.side_by_side import SideBySide
 from raceoffice.web.states import Values
 
 # Reads the settings of several series, of which one may hang: None if they are wrong.

@@ -19,6 +19,7 @@ from raceoffice.results.http_answers import addresses
 from raceoffice.results.source import need_own_names
 from raceoffice.series.folder import Folder, clock
 from raceoffice.session.dialogue import Question
+from raceoffice.side_by_side import answer_of
 from raceoffice.terminal import question, say, say_if_heard
 from raceoffice.traces import WRITTEN, written
 from raceoffice.web import qr
@@ -27,8 +28,8 @@ from raceoffice.web.hosting import Host, secure_with
 from raceoffice.web.routes import Routes
 from raceoffice.web.web_office import WebOffice, gate_of
 
-# Seconds until the board's first pages are there, and between two looks for them.
-FIRST, TICK = 10.0, 0.05
+# Seconds until the board's first pages are there, and between two looks for them; and for a browser to be started.
+FIRST, TICK, STARTED = 10.0, 0.05, 5.0
 # Seconds within which a second Ctrl-C closes an office to which devices may still write.
 SURE = 10.0
 READY = "Ctrl-C closes the office."
@@ -121,8 +122,8 @@ class Web:
                   or role.lower() in self.asked.new]
         return {role: self.routes.link(role) for role in wanted}
 
-    def say_links(self) -> dict[str, str]:
-        """Says where the office is; the links that were made."""
+    def say_links(self) -> None:
+        """Says where the office is, and the links that were made."""
         say(f"Board, for all:   {self.office.address}")
         made = self.links()
         for role, link in made.items():
@@ -135,7 +136,6 @@ class Web:
         if not self.asked.certificate:
             say("Plain HTTP: whoever is in this network and listens can read what devices send, also what lets "
                 "them write. Use a Wi-Fi of your own with a password, or --certificate.")
-        return made
 
     def secure(self) -> ssl.SSLContext | None:
         """What HTTPS needs, if it was asked for."""
@@ -164,7 +164,7 @@ class Web:
             if not self.stopped:
                 await self.begin()
             if not self.stopped:
-                self.say_open()
+                await self.say_open()
                 await end.wait()
             if self.is_ready or self.office.keeps_any():
                 say_if_heard("\nClosing the office. Once more Ctrl-C doesn't wait for room on a full disk.")
@@ -180,29 +180,45 @@ class Web:
         threading.Thread(target=self.office.keep_board, daemon=True).start()
         await self.wait_for_board()
 
-    def say_open(self) -> None:
+    async def say_open(self) -> None:
         """Says where the office is, and shows it if that was asked for."""
-        made = self.say_links()
+        self.say_links()
         if self.asked.is_shown_here:
-            # Another link would end the one that was just shown.
-            webbrowser.open(made.get("SCORER") or self.routes.link("SCORER", False))
+            await self.show_here()
         say(READY)
         self.is_ready = True
+
+    async def show_here(self) -> None:
+        """Shows the scorer's page in a browser of this computer. All its accounts may see by which link that was started: one
+        device comes in by it. Some browsers are shown in the terminal, and no connection waits until somebody has left one."""
+        link = self.routes.link_for_one("SCORER")
+        opening = asyncio.wrap_future(answer_of(functools.partial(webbrowser.open, link)))
+        await asyncio.wait([opening], timeout=STARTED)
 
     def stop(self, end: asyncio.Event, number: int) -> None:
         """Ends the web, in order; a second signal hurries that. Ctrl-C is wanted twice while devices may write."""
         if end.is_set():
             self.office.hurry()
-        elif self.is_ready and number == signal.SIGINT and not self.is_sure():
-            return
+        elif self.is_ready and number == signal.SIGINT:
+            # Who may write is asked of folders, one of which may hang: no connection waits for that.
+            asking = asyncio.get_running_loop().run_in_executor(None, self.is_sure)
+            # If that can't be told, it is closed all the same.
+            asking.add_done_callback(lambda sure: self.end(end, number) if sure.exception() or sure.result() else None)
+        else:
+            self.end(end, number)
+
+    def end(self, end: asyncio.Event, number: int) -> None:
+        """Ends the web by a signal."""
         self.stopped = self.stopped or number
         end.set()
 
     def is_sure(self) -> bool:
         """Whether Ctrl-C closes the office; if not, who may still write and which places are kept is said, and a second one
         closes it."""
-        writers, places = self.office.writers(), self.office.places_kept()
-        if not (writers or places) or time.monotonic() < self.sure_until:
+        if time.monotonic() < self.sure_until:
+            return True
+        writers, places = [*self.office.writers(), *self.office.windows()], self.office.places_kept()
+        if not (writers or places):
             return True
         self.sure_until = time.monotonic() + SURE
         still = [f"These may still write: {', '.join(writers)}."] if writers else []

@@ -5,11 +5,13 @@ from collections.abc import Mapping
 from typing import Any
 
 from raceoffice.corrected.ratings import faults_in_race
-from raceoffice.corrected.times import Rules
+from raceoffice.corrected.times import RULES, Rules
 from raceoffice.errors import Trouble
+from raceoffice.files import stamp_of
 from raceoffice.remarks import Remark, remark
 from raceoffice.series.entry_list import plain, problems
 from raceoffice.series.folder import Folder
+from raceoffice.series.race_sheets import SHEETS
 from raceoffice.series.read_list import bytes_of, name_of
 from raceoffice.web.states import Values, remarks_of
 
@@ -34,13 +36,30 @@ def why_waiting(sail: str, row: Mapping[str, Any], alone: Mapping[str, Remark]) 
     return [alone[sail]] if sail in alone else []
 
 
-def of_ratings(folder: Folder, race: int) -> tuple[list[Remark], dict[str, Remark]]:
-    """What is wrong with the ratings of a race: for all boats, and for those that have none."""
+# What is wrong with the ratings of a race: for all boats, and for those that have none.
+Wrong = tuple[list[Remark], dict[str, Remark]]
+# What was found of each race of a folder, and of which files: pages ask for all races after each tap.
+FOUND: dict[tuple[str, int], tuple[object, Wrong]] = {}
+
+
+def of_ratings(folder: Folder, race: int) -> Wrong:
+    """What is wrong with the ratings of a race."""
+    files, key = (stamp_of(folder.entries), stamp_of(folder.file(SHEETS, RULES))), (folder.path, race)
+    known = FOUND.get(key)
+    if known and known[0] == files:
+        return known[1]
     try:
-        data, system = bytes_of(folder.entries), Rules.read(folder).system
-        if wrong := problems(data, folder.entries):
-            return wrong[:1], {}
-        faults, alone = faults_in_race(data, name_of(folder.entries), race, system)
+        found = ratings_now(folder, race)
     except Trouble as trouble:
         return [remark("sheet-fault", why=trouble.said[0])], {}
+    FOUND[key] = (files, found)
+    return found
+
+
+def ratings_now(folder: Folder, race: int) -> Wrong:
+    """The same by the files as they are now; a Trouble if one can't be read."""
+    data, system = bytes_of(folder.entries), Rules.read(folder).system
+    if wrong := problems(data, folder.entries):
+        return wrong[:1], {}
+    faults, alone = faults_in_race(data, name_of(folder.entries), race, system)
     return faults, {plain(sail): why for sail, why in alone.items()}

@@ -57,13 +57,15 @@ class TapSession(Session):
         self.later = ""
         # Whether a tap may take several lines, each of which has a note of its own.
         self.is_of_several = False
+        # Whether the lines of a tap are followed, and whether the journal hasn't been read since one was.
+        self.is_following = self.is_behind = False
         # The boats that aren't entered, whose rows in sheets of times were said to be left out.
         self.left_out = Once()
         super().__init__(folder, role, "", self.said.append, self.is_agreed)
 
-    def connect(self) -> None:
-        """Links to the office, in the role of this session."""
-        self.link, self.number = self.folder.link(), ""
+    def connect(self, link: Link | None = None) -> None:
+        """Links to the office, in the role of this session, perhaps by a link that is there."""
+        self.link, self.number = link or self.folder.link(), ""
         try:
             self.link.ask(f"ROLE {self.role}")
         except Trouble:
@@ -94,8 +96,36 @@ class TapSession(Session):
         # If the web dies, its phone may take the line for done.
         self.at_the_line.need_alone()
 
+    def look(self) -> None:
+        if not (self.is_following and self.is_own_followed()):
+            super().look()
+
     def look_at_journal(self) -> None:
         self.facts = self.see(self.office())
+        self.is_behind = False
+
+    @contextlib.contextmanager
+    def following(self) -> Iterator[None]:
+        """Each line that is taken inside is about a race, and the office isn't asked what the journal has after it, unless
+        somebody else has sent one before it: the journal is read once, after the last line."""
+        self.is_following = True
+        try:
+            yield
+        finally:
+            self.is_following = False
+        if self.is_behind:
+            self.look()
+
+    def is_own_followed(self) -> bool:
+        """Whether the last line that was sent is known to be the next entry of the journal; it is followed then."""
+        sent, journal = self.register.sent[f"{self.tap.id}/{self.lines}"], self.facts.sheet.journal
+        # Its number says whether somebody else was first. The first line of a link shows which seat that has.
+        if not self.number or sent.entry != len(journal) + 1:
+            return False
+        own = last_numbers(journal).get(self.number, 0) + 1
+        self.facts = self.facts.followed(f"{self.number} {own} {sent.role} {as_kept(sent.line)}")
+        self.is_behind = True
+        return True
 
     def is_agreed(self, asked: Question) -> bool:
         """Whether just this was agreed to."""

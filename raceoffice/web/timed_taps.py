@@ -13,6 +13,7 @@ from raceoffice.corrected.times import Rules, Sheets
 from raceoffice.corrected.unsent import unsent
 from raceoffice.corrected.write_sheet import SheetOfRace
 from raceoffice.errors import NotNow, NotSent, NotThere, Trouble
+from raceoffice.files import stamp_of
 from raceoffice.program.codes import OF_JURY
 from raceoffice.program.replay import Line
 from raceoffice.remarks import remark
@@ -137,7 +138,8 @@ class TimedTap:
             said[sail] = [one for one in self.session.said[start:] if one.what not in OF_ONE_LINE]
             del self.session.said[start:]
             return is_good
-        not_taken(lines, is_line_taken)
+        with self.session.following():
+            not_taken(lines, is_line_taken)
         self.session.tell_all(itertools.chain(*said.values()))
         taken = [answer for _, answer in answers if answer.startswith("OK ")]
         if taken and self.session.facts.race(str(self.race.number)).counts:
@@ -285,16 +287,27 @@ def sheets_shown(folder: Folder) -> dict[int, Values]:
     races = races_with_sheet(folder) if folder.settings.handicap else []
     nights = nights_of(folder) if races else ()
     for race in races:
-        wrong: Sequence[str]
+        path = folder.file(sheet_name(race))
+        key, known = (stamp_of(path), race in nights), SHOWN.get(path)
         try:
-            rows, faults = entries_of(bytes_of(folder.file(sheet_name(race))), sheet_name(race))
-            wrong = [*faults]
+            if known is None or known[0] != key:
+                known = SHOWN[path] = (key, sheet_shown(path, race, race in nights))
+            found[race] = known[1]
         except (NotThere, Trouble) as trouble:
-            rows, wrong = [], trouble.said
-        starts = sorted({row.cells["start"] for row in rows if row.cells["start"]})
-        found[race] = {"start": starts[0] if len(starts) == 1 else "", "wrong": remarks_of(wrong),
-                       "rows": {row.sail: row_shown(row, race in nights, *starts[:1]) for row in rows if row.is_timed or row.code}}
+            found[race] = {"start": "", "wrong": remarks_of(trouble.said), "rows": {}}
     return found
+
+
+# The sheets that were shown last, by their files: pages ask for all of them after each tap.
+SHOWN: dict[str, tuple[object, Values]] = {}
+
+
+def sheet_shown(path: str, race: int, is_overnight: bool) -> Values:
+    """The sheet of a race as it is now. NotThere or a Trouble if it can't be read."""
+    rows, faults = entries_of(bytes_of(path), sheet_name(race))
+    starts = sorted({row.cells["start"] for row in rows if row.cells["start"]})
+    return {"start": starts[0] if len(starts) == 1 else "", "wrong": remarks_of(faults),
+            "rows": {row.sail: row_shown(row, is_overnight, *starts[:1]) for row in rows if row.is_timed or row.code}}
 
 
 def races_begun(folder: Folder) -> list[int]:

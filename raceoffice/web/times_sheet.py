@@ -69,9 +69,13 @@ def save_sheet(folder: Folder, facts: Facts, values: Mapping[str, Any]) -> Value
         raise NotSent(remark("sheet-unread"))
     sheet = SheetOfRace(folder, facts.race(number).number)
     before = sheet.data
+    if values.get("rows"):
+        # An empty cell is as that of the boat above on the page.
+        sheet.put_in_order(list(facts.boats))
+    in_order = sheet.data
     put_rows(sheet, facts, values.get("rows"), CHANGED[rules_of(folder).system])
     # The web may have died after it had written just this.
-    if sheet.data != before and values.get("tag") != shown["tag"]:
+    if sheet.data != in_order and values.get("tag") != shown["tag"]:
         raise NotSent(remark("sheet-changed"))
     put_night(folder, facts.race(number).number, values.get("overnight", shown["overnight"]))
     if sheet.data != before:

@@ -18,13 +18,13 @@ from raceoffice.series.unknown_finishers import places_by_race
 from raceoffice.terminal import say_if_heard, sentence
 from raceoffice.traces import guarded
 from raceoffice.web.declarations import Declarations
-from raceoffice.web.gate import DEVICES_FILE, Gate
+from raceoffice.web.gate import DEVICES_FILE, Device, Gate
 from raceoffice.web.hosting import Hub
 from raceoffice.web.kept_office import KeptOffice
 from raceoffice.web.live_board import TICK, LiveBoard
 from raceoffice.web.page_news import PageNews
 from raceoffice.web.room import Room
-from raceoffice.web.side_by_side import SideBySide
+from raceoffice.side_by_side import SideBySide
 from raceoffice.wording import count
 
 # Seconds within which pages learn of several pieces of news together, and phones that look at the board.
@@ -99,7 +99,7 @@ class WebOffice:
             room.close()
             raise
         threading.Thread(target=room.watch, daemon=True).start()
-        threading.Thread(target=self.watch_register, args=(found,), daemon=True).start()
+        threading.Thread(target=self.watch_folder, args=(found,), daemon=True).start()
         self.news.wake()
         return found
 
@@ -122,11 +122,13 @@ class WebOffice:
         self.left_out.pop(folder.name, None)
         self.show({**self.classes, folder.name: one})
 
-    def watch_register(self, one: Class) -> None:
-        """Takes a class away once its register isn't its own any more. It has a thread for that: its folder may hang."""
+    def watch_folder(self, one: Class) -> None:
+        """Takes a class away once its register isn't its own any more, and shows to the window of an office that devices may
+        write. It has a thread for that: its folder may hang."""
         folder = one.room.folder
         while not one.room.is_ending.wait(TICK):
             with contextlib.suppress(Fault), guarded(folder.path):
+                one.office.show_devices(bool(self.devices_now()))
                 if one.room.register.is_another():
                     self.take_away(folder.name)
                     return
@@ -211,12 +213,21 @@ class WebOffice:
         return any(one.office.keeping for one in self.classes.values())
 
     def writers(self) -> list[str]:
-        """The devices that may still write to an office that this process keeps, with their roles. Nobody writes to
-        one that is being closed."""
-        if not any(one.office.takes_lines() for one in self.classes.values()):
+        """The devices that may still write to an office that this process keeps or has joined, with their roles. Nobody writes
+        to one that is being closed."""
+        if not any(one.office.takes_lines() or one.office.keeping is None and not one.room.trouble for one in self.classes.values()):
             return []
-        return [f"{device.name} ({device.role.lower()}{taps_held(device.unsent)})" for device in self.gate.devices.values()
+        return [f"{device.name} ({device.role.lower()}{taps_held(device.unsent)})" for device in self.devices_now()]
+
+    def devices_now(self) -> list[Device]:
+        """The devices that may write: those that were heard in the last hour, or hold taps."""
+        return [device for device in list(self.gate.devices.values())
                 if device.heard > self.gate.clock.now() - RECENT or device.unsent and self.gate.lets_in(device.mark)]
+
+    def windows(self) -> list[str]:
+        """The windows in which somebody may still type for an office that this process keeps."""
+        asked = {name: one.room.folder.windows_to_type for name, one in self.classes.items() if one.office.takes_lines()}
+        return [window for found in SideBySide[list[str]]().answers(asked).values() for window in found]
 
     def places_kept(self) -> list[str]:
         """The places of finishers without a sail in each office that this process keeps and isn't closing, as sentences."""
@@ -240,6 +251,7 @@ class WebOffice:
             self.tell(f"{one.room.folder.name}: The office stays open, as it was before.")
         one.results.close()
         one.room.close()
+        one.office.show_devices(False)
 
     def hurry(self) -> None:
         """From now on nobody waits for room on a full disk."""

@@ -285,6 +285,17 @@ class Worked(unittest.TestCase):
             "she holds redress ALL there, which isn't of decisions.txt", "race 2 doesn't count",
             "the jury has decided nothing about her there", "X isn't entered"])
 
+    def test_redress_of_another(self) -> None:
+        """NSC and REINSTATE give no points: what a boat holds as redress isn't theirs, and her cell says RDG."""
+        typed = [Line("JURY" if line.startswith("REDRESS") else "SCORER", line) for line in (
+            "ENTER A", "ENTER B", "FINISH 1 A", "FINISH 1 B", "REDRESS 1 A 2.0", "REDRESS 1 B ALL", "SCORE 1")]
+        journal = replay.scored(helpers.PROGRAM, [], [], typed).journal
+        found = decision_points.decided(helpers.PROGRAM, [], journal, "race 1 A NSC\nrace 1 B REINSTATE")
+        self.assertEqual(found.labels, {})
+        self.assertEqual([decision_points.words_of(verdict) for verdict in found.verdicts],
+                         ["did not sail the course. Not in the scores yet", "reinstated. Not in the scores yet"])
+        self.assertEqual({verdict.state for verdict in found.verdicts}, {"to be sent, and the journal doesn't have it"})
+
     def test_faults(self) -> None:
         """A line that can't be read is named, with what it has to be."""
         for line, why in {
@@ -360,6 +371,17 @@ class Sent(helpers.Series):
         self.assertEqual((said.splitlines()[-1], status), ("Nothing is to be sent.", 0))
         self.late()
 
+    def test_log_that_cannot_be_written(self) -> None:
+        """A line that the office has taken isn't said to be typed again, whatever becomes of the log."""
+        self.open()
+        self.typed(*(f"FINISH 1 {sail}" for sail in ("GBR101", "GBR7", "NED12")), "SCORE 1")
+        self.write("race 1 GBR7 PRP 30%\n", "cup", "decisions.txt")
+        os.rename(os.path.join(self.here, "cup", "office.log"), os.path.join(self.here, "office.log"))
+        os.mkdir(os.path.join(self.here, "cup", "office.log"))
+        said, status = self.decisions("send", lines="y\n")
+        self.assertIn("Beware: office.log can't be written: Is a directory.\n1 of 1 line taken.\n", said)
+        self.assertEqual((status, "REDRESS 1 GBR7 4.0" in self.text("cup", "journal.txt")), (0, True))
+
     def test_typed_meanwhile(self) -> None:
         """Nothing is sent if somebody types what changes a decision's points before the answer."""
         self.open()
@@ -387,7 +409,7 @@ class Sent(helpers.Series):
         self.assertEqual(self.cells("IRL 55")[2:], ["8.0", "NSC"])
         self.assertEqual(self.cells("GBR 33"), ["8.0", "DNC", "8.0", "DUTY"])
         self.assertEqual(self.cells("FRA 9")[2:], ["8.0", "OCS"])
-        self.assertNotIn("Out of date", self.text("out.html").partition("<main")[2])
+        self.assertNotIn("Out of date", self.text("out.html").partition("<main")[2].partition("</main>")[0])
         self.typed("ENTER ITA1", "ENTER ITA2", "ENTER ITA3")
         said, status = self.decisions("check")
         # DNF is 11 now: 30% of it is 3, and the ZFP costs 2.
@@ -457,7 +479,7 @@ class Sent(helpers.Series):
         assert real
         real.close()
         self.assertEqual(said[:4], [
-            "Stopped at PENALTY 1 GBR7 ZFP: the office has gone.",
+            "Stopped at PENALTY 1 GBR7 ZFP: the office has gone. It may be in the journal, or not: look before you type it.",
             "Not sent, and to be typed in this order:", "      PENALTY 1 GBR7 ZFP   (scorer)",
             "      REDRESS 1 GBR7 9.0   (jury)"])
 

@@ -15,6 +15,7 @@ import helpers
 
 from forger import journal_of
 from raceoffice.program import replay
+from raceoffice.program.explanation import explanation_of
 from raceoffice.program.standing import Standing
 from raceoffice.results.html import chart
 from test_page import APART, PALE, SIZES, SMALL, WEEK, season
@@ -196,10 +197,8 @@ class Results(Made):
         folder = self.make("long", entries, exclude="2,4")
         lines = season(5, 3)
         journal = journal_of(folder, *lines).splitlines()[1:]
-        told: list[tuple[int, int]] = []
-        found = replay.developed(helpers.PROGRAM, ["--exclude", "2,4"], journal, range(1, 6),
-                                 lambda done, whole: told.append((done, whole)))
-        self.assertEqual(told, [(race, 5) for race in range(1, 6)])
+        standing = Standing.read(list(replay.scored(helpers.PROGRAM, ["--exclude", "2,4"], journal).table))
+        found = explanation_of(helpers.PROGRAM, ["--exclude", "2,4"], journal, standing).course
         self.assertEqual(len(found), 5)
         for race in range(1, 6):
             later = [f"SCORE {number}" for number in range(race + 1, 6)]
@@ -212,14 +211,14 @@ class Results(Made):
             self.assertEqual(found[race - 1], Standing.read(done.stdout.splitlines()).ranks())
 
     def test_full_journal(self) -> None:
-        """A journal without room for more lines has results, and no chart."""
+        """A journal without room for more lines has results, and a chart."""
         folder = self.make("full")
         more = [line for _ in range(4096) for line in ("UNSCORE 1", "SCORE 1")]
         lines = ["FINISH 1 GBR7", "SCORE 1", "FINISH 2 GBR7", "SCORE 2", *more]
         self.write(journal_of(folder, *lines[:8192 - 8]), "full", "journal.txt")
         said = self.results("full", "--html", "out.html")
         self.assertIn("2 races", said)
-        self.assertNotIn("How the standing developed", self.text("out.html"))
+        self.assertIn("How the standing developed", self.text("out.html"))
 
     def test_lines(self) -> None:
         """No two lines of the chart differ in colour alone, and its table has every boat's ranks."""

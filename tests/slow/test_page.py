@@ -17,6 +17,8 @@ import browser
 from browser import Browser
 import helpers
 from raceoffice.program.link import Link
+from raceoffice.results import exports
+from raceoffice.results.html.notice_board import results as notice
 from test_board import RACE, SECOND
 
 WEEK = os.path.join(helpers.TOP, "tests", "week")
@@ -285,6 +287,17 @@ class Pages(helpers.Series):
         self.browser.open(page)
         self.assertEqual(self.browser.run("document.querySelector('.reason.final').innerText"), "Time is up.")
 
+    def test_changed_beside_unchanged(self) -> None:
+        """In the page of several classes the state of those that haven't changed keeps its colour."""
+        self.make("cup-one", **{"class": "One"}, state="final", reason="The results have changed since they were declared final.")
+        self.make("cup-two", **{"class": "Two"}, state="final")
+        self.write(notice([exports.view_of(os.path.join(self.here, name), lambda _: None) for name in ("cup-one", "cup-two")]), "both.html")
+        self.browser.open(f"file://{self.here}/both.html")
+        state = "[...document.querySelectorAll('.state .word')].map(word => getComputedStyle(word).backgroundColor)"
+        changed, unchanged = self.browser.run(state)
+        self.assertEqual(changed, self.browser.run("getComputedStyle(document.body).backgroundColor"))
+        self.assertNotEqual(unchanged, changed)
+
     def test_corrected(self) -> None:
         """On a phone the helm's column is the widest, also with corrected times, which are below the
         points."""
@@ -429,7 +442,7 @@ class Pages(helpers.Series):
                     "Race 8, GBR 820: redress", "Page 2 of 2"]),
                 (page.replace("index", "race-8"), [(595, 842)], [
                     "Place Sail Helm, boat · club Points 1 DEN 412 Søren Kjeldgaard",
-                    "OCS GER 1188", "RDG average of all other races", "Page 1 of 1"])]:
+                    "OCS GER 1188", "Redress and penalties Race 8, GBR 820: redress", "Page 1 of 1"])]:
             self.browser.open(address)
             self.printed()
             self.assertEqual([(round(width), round(height)) for width, height in self.sizes], sizes)

@@ -68,6 +68,19 @@ class Finish(WebTrial):
         ann.until("document.querySelectorAll('#list li').length === 3")
         self.assertEqual([bool(time) for time in ann.texts("#list li .end b")], [False, True, False])
 
+    def test_back_in_their_places(self) -> None:
+        """Boats that come back, as after a race was abandoned, are found by their numbers once nobody taps any more."""
+        ann, boats = self.phone(), "document.querySelectorAll('#grid .boat').length"
+        ann.until(f"{boats} === 24")
+        before = ann.texts("#grid .boat b")
+        for sail in ("GBR7", "POR8"):
+            ann.tap(sail)
+        self.settle(ann)
+        ann.until(f"{boats} === 22")
+        helpers.run("type", "cup", "--role", "scorer", lines="STRIKE 1 GBR7\nSTRIKE 1 POR8\n", cwd=self.here)
+        ann.until(f"{boats} === 24")
+        ann.until(f"[...document.querySelectorAll('#grid .boat b')].map(one => one.textContent).join() === '{','.join(before)}'")
+
     def test_digits_and_places(self) -> None:
         """Digits show the whole number first; boats keep their places until nobody taps any more."""
         ann = self.phone()
@@ -234,6 +247,30 @@ class Finish(WebTrial):
                                           "FINISH FINISH 1 NED12", "FINISH BEFORE 1 GBR7 FRA9"])
         ben.until("document.querySelectorAll('#list li').length === 6")
         self.assertEqual(ben.texts(ROWS), ["GBR 101", "GBR 33", "?1", "GBR 7", "FRA 9", "NED 12"])
+
+    def test_undo_after_a_refused_tap(self) -> None:
+        """What was refused is what Undo takes back, until somebody presses it away; then it is the tap before."""
+        ann, left = self.phone(), "document.querySelectorAll('#list li.refused').length"
+        for sail in ("GBR7", "NED12"):
+            ann.tap(sail)
+        self.settle(ann)
+        for is_understood in (False, True):
+            ann.click("#level")
+            helpers.run("type", "cup", "--role", "scorer", lines="STRIKE 1 NED12\n", cwd=self.here)
+            ann.until("document.querySelectorAll('#list li').length === 1")
+            ann.tap("FRA9")
+            ann.until(f"{left} === 1")
+            self.assertEqual(ann.text("#undo"), "Undo 9")
+            if is_understood:
+                ann.click("#list li.refused button")
+                ann.choose("ok")
+            else:
+                ann.click("#undo")
+            ann.until(f"{left} === 0 && document.querySelector('#undo').textContent === 'Undo 12'")
+            self.assertEqual(ann.run("JSON.parse(localStorage.undoable).length"), 2)
+            helpers.run("type", "cup", "--role", "scorer", lines="FINISH 1 NED12\n", cwd=self.here)
+            ann.until("document.querySelectorAll('#list li').length === 2")
+        self.need_no_faults()
 
     def test_typed_meanwhile(self) -> None:
         """It is said that the clock knows nothing of a boat that was typed in a window; whoever goes by it all the same is
@@ -503,6 +540,23 @@ class Two(WebTrial):
         self.assertEqual(self.journal("fleet"), finishes("NED80", "GBR33"))
         # They are listed as they came.
         self.assertEqual(ann.texts(ROWS), ["GBR 101", "NED 80", "GBR 33", "GBR 33"])
+        self.need_no_faults()
+
+
+class Alike(WebTrial):
+    """Two classes at one line whose names begin alike."""
+    classes = {"cup": entries_of(BOATS[:3]), "fleet": entries_of(BOATS[:3])}
+    titles = {"cup": "ILCA 6 Youth", "fleet": "ILCA 7 Youth"}
+
+    def test_told_apart(self) -> None:
+        """Each boat's class can be read, also of two with one sail."""
+        ann = self.phone()
+        for at in (0, 1):
+            ann.until("document.querySelectorAll('.race').length === 2")
+            ann.run(f"document.querySelectorAll('.race')[{at}].click()")
+            ann.click("dialog [data-race='1']")
+            ann.until("!document.querySelector('dialog')")
+        self.assertEqual(sorted(ann.texts("#grid .boat[data-sail=GBR7] small")), ["GBR·6 Yo", "GBR·7 Yo"])
         self.need_no_faults()
 
 

@@ -63,6 +63,13 @@ class TimedCorrections(WebTrial):
         self.assertEqual(self.journal()[3:], ["SCORER STRIKE 1 GBR7", "SCORER TIME 1 GBR7 3564", "SCORER TIME 1 FRA9 3360"])
         self.need_no_faults()
 
+    def test_elapsed(self) -> None:
+        """A boat whose elapsed time was put in has that shown, as on the paper."""
+        self.write("Sail,Start,Finish,Elapsed\nGBR 101,14:00:00,15:00:00,\nNED 12,,,0:40:00\n", "cup", "times", "race-1.csv")
+        scorer = self.scorer_of(1, 2)
+        self.assertEqual(scorer.texts(".order td.time"), ["0:40:00", "15:00:00"])
+        self.need_no_faults()
+
     def test_fault(self) -> None:
         """What keeps a sheet from being read is shown beside its race, and goes once it is put right."""
         self.write(SHEET.replace("15:05:00", "15:5:7"), "cup", "times", "race-1.csv")
@@ -170,6 +177,33 @@ class TimedCorrections(WebTrial):
         helpers.until("no start", lambda: "14:00" not in "".join(self.sheet(2)))
         self.assertEqual(sorted(self.journal()[8:]), ["SCORER CLEAR 2 FRA9", "SCORER STRIKE 2 GBR101", "SCORER STRIKE 2 GBR7",
                                                       "SCORER STRIKE 2 NED12"])
+        self.need_no_faults()
+
+    def test_another_race_with_laps(self) -> None:
+        """Nothing of a race that was another one stays behind: no laps of a boat, which would count when it is sailed. Rows of boats
+        that aren't entered keep nothing from it."""
+        self.write("Sail,Boat,PY\nGBR 101,Kestrel,1000\nGBR 7,Sea Pink,900\nNED 12,Windhover,1250\nFRA 9,Plover,800\n", "cup", "entries.csv")
+        self.write(f"[times]\nsystem = py\nprogram = {helpers.TIMES}\n", "cup", "times", "rules.ini")
+        self.write("Sail,Start,Finish,Laps\nUSA 2,,,\nGBR 101,14:00:00,15:00:00,2\nGBR 7,14:00:00,15:05:00,3\n", "cup", "times", "race-2.csv")
+        self.write("Sail,Start,Finish,Laps\nUSA 1,,,\n", "cup", "times", "race-1.csv")
+        scorer = self.scorer_of(2, 2)
+        self.move(scorer, "GBR101", 1)
+        helpers.until("no start", lambda: "14:00" not in "".join(self.sheet(2)))
+        self.assertEqual([row.replace(" ", "").rstrip(",") for row in self.sheet(2)[1:3]], ["GBR101", "GBR7"])
+        self.assertIn("GBR101,14:00:00,15:00:00,2,", self.sheet(1))
+        self.need_no_faults()
+
+    def test_start_of_the_boat_above(self) -> None:
+        """A start that is left empty is as that of the boat above on the page, however the sheet is ordered, and is shown there
+        once it is saved: 3,600 s x 1.000, 2,881 s x 1.250."""
+        self.write("Sail,Start,Finish\nNED 12,,14:48:01\nGBR 101,,15:00:00\n", "cup", "times", "race-1.csv")
+        scorer = self.device("scorer", "Bea’s laptop")
+        scorer.click("#tab-times")
+        scorer.type("[name=start][aria-label^='GBR 101']", "14:00:00")
+        scorer.click("#send-times")
+        scorer.until("[...document.querySelectorAll('#times-table .corrected')].map(one => one.textContent).join() === '1:00:00,,1:00:01,'")
+        self.assertEqual(scorer.run("[...document.querySelectorAll('#times-table [name=start]')].map(one => one.value)"), ["14:00:00"] * 4)
+        self.assertEqual(sorted(self.journal()), ["SCORER TIME 1 GBR101 3600", "SCORER TIME 1 NED12 3601"])
         self.need_no_faults()
 
     def test_another_race_with_a_code(self) -> None:

@@ -13,7 +13,7 @@ use Rattle.regatta_scores.specs.Sheet.{boats, nothing_held, empty_sheet}
 use Rattle.regatta_scores.specs.Journal.{Journal, same_sail, entered, held, scored}
 use Rattle.regatta_scores.specs.Journal.{is_scored}
 use Rattle.regatta_scores.specs.Lines.{line_by}
-use Rattle.regatta_scores.specs.Outcomes.{outcome, score_of, scores}
+use Rattle.regatta_scores.specs.Outcomes.{outcome, score_of}
 use Rattle.regatta_scores.specs.RacePoints.{race_of, journal_race}
 use Rattle.regatta_scores.specs.RaceScores.{no_score, race_score, scores_in}
 use Rattle.regatta_scores.specs.RankLaws.{lines as journal_lines}
@@ -25,6 +25,7 @@ use Rattle.regatta_scores.proofs.Members.{all_passed}
 use Rattle.regatta_board.specs.Table as all
 use Rattle.regatta_board.specs.Refusals.{is_entered}
 use Rattle.regatta_board.specs.KeptJournal.{number, sheet_of, kept_of, IsOrderly}
+use Rattle.regatta_board.specs.RanksAfter.{line_over, row_over, rows_over, scores_over}
 use Rattle.regatta_board.specs.Scoring.{lines_by}
 use Rattle.regatta_board.proofs.KeptFacts.{counts_are, sheet_is}
 use Rattle.regatta_board.proofs.Maps.{map_map}
@@ -86,56 +87,65 @@ module _ (rules : RulesParts) (journal : Journal) (orderly : IsOrderly rules jou
       filter_known IsRace (λ race. get_or (kept_of rules journal).counts (race - 1) false)
       (is_scored journal) (counts_are rules journal) (range_with_len 1 MAX_RACES) all_races
 
-  columns_are : all.columns rules (kept_of rules journal).sheets (scored journal)
-      ≡ map (λ race. map (hers race) (entered journal)) (scored journal)
-  columns_are =
+  races_within : AllByRecursion IsRace (scored journal)
+  races_within = all_passed IsRace (is_scored journal) (range_with_len 1 MAX_RACES) all_races
+
+  -- ---- some races
+
+  columns_are : (races : List ℕ) → AllByRecursion IsRace races
+      → all.columns rules (kept_of rules journal).sheets races
+      ≡ map (λ race. map (hers race) (entered journal)) races
+  columns_are races within =
       map_known IsRace
       (λ race. all.column rules (get_or (kept_of rules journal).sheets (race - 1) (empty_sheet 0)))
       (λ race. map (hers race) (entered journal))
       (λ race h. ap (all.column rules) (sheet_is rules journal race h) ∙ column_is race)
-      (scored journal) (all_passed IsRace (is_scored journal) (range_with_len 1 MAX_RACES) all_races)
+      races within
 
-  by_boat : (b : ℕ) → b < length (entered journal)
-      → scores_in
-      (map (λ race. map (hers race) (entered journal)) (scored journal)) b
-      ≡ scores rules journal (get_or (entered journal) b [])
-  by_boat b h =
+  by_boat : (races : List ℕ) (b : ℕ) → b < length (entered journal)
+      → scores_in (map (λ race. map (hers race) (entered journal)) races) b
+      ≡ scores_over rules journal races (get_or (entered journal) b [])
+  by_boat races b h =
       map_map (λ (column : List RaceScore). get_or column b no_score)
-      (λ race. map (hers race) (entered journal)) (scored journal)
-      ∙ (λ i. map (λ race. get_or-map (hers race) (entered journal) b [] no_score h i)
-      (scored journal))
+      (λ race. map (hers race) (entered journal)) races
+      ∙ (λ i. map (λ race. get_or-map (hers race) (entered journal) b [] no_score h i) races)
 
   -- ---- all boats
 
-  lines_are : all.lines rules
-      (map (λ race. map (hers race) (entered journal)) (scored journal))
-      (length (entered journal)) ≡ journal_lines rules journal
-  lines_are =
-      let found = map (λ race. map (hers race) (entered journal))
-      (scored journal) in
-      map_over (λ b. line_by rules (scores_in found b)) (by_journal.line rules journal)
+  lines_are : (races : List ℕ)
+      → all.lines rules (map (λ race. map (hers race) (entered journal)) races)
+      (length (entered journal)) ≡ map (line_over rules journal races) (entered journal)
+  lines_are races =
+      let found = map (λ race. map (hers race) (entered journal)) races in
+      map_over (λ b. line_by rules (scores_in found b)) (line_over rules journal races)
       (entered journal) [] (record { points = []; excluded = [] })
-      (λ b h. ap (line_by rules) (by_boat b h))
+      (λ b h. ap (line_by rules) (by_boat races b h))
 
   -- the lines computed from what is kept of the journal are those of the journal
   pub lines_kept : lines_by rules (kept_of rules journal) ≡ journal_lines rules journal
   lines_kept =
       (λ i. all.lines rules (all.columns rules (kept_of rules journal).sheets (races_are i))
       (length (entered journal)))
-      ∙ (λ i. all.lines rules (columns_are i) (length (entered journal))) ∙ lines_are
+      ∙ (λ i. all.lines rules (columns_are (scored journal) races_within i)
+      (length (entered journal)))
+      ∙ lines_are (scored journal)
 
-  rows_are : all.rows rules (entered journal)
-      (map (λ race. map (hers race) (entered journal)) (scored journal))
-      ≡ (by_journal.standing rules journal).rows
-  rows_are =
-      let found = map (λ race. map (hers race) (entered journal))
-      (scored journal) in
+  -- the rows of these races, from what is kept of the journal, are those of the journal
+  pub rows_are_over : (races : List ℕ) → AllByRecursion IsRace races
+      → all.rows rules (entered journal)
+      (all.columns rules (kept_of rules journal).sheets races)
+      ≡ rows_over rules journal races
+  rows_are_over races within =
+      let found = map (λ race. map (hers race) (entered journal)) races in
       let none : Row = record { sail = []; rank = 0; tied = false; net = 0; cells = [] } in
-      ap by_journal.sorted_rows
+      ap (all.rows rules (entered journal)) (columns_are races within)
+      ∙ ap by_journal.sorted_rows
       (map_over (all.row_of rules (entered journal) found)
-      (by_journal.row rules journal (journal_lines rules journal)) (entered journal) [] none
-      (λ b h i. (let line = line_by rules (by_boat b h i) in
-      row_by (get_or (entered journal) b []) (place (lines_are i) line) line (by_boat b h i))))
+      (row_over rules journal races (map (line_over rules journal races) (entered journal)))
+      (entered journal) [] none
+      (λ b h i. (let line = line_by rules (by_boat races b h i) in
+      row_by (get_or (entered journal) b []) (place (lines_are races i) line) line
+      (by_boat races b h i))))
 
   pub table_is : all.table rules (kept_of rules journal) ≡ by_journal.standing rules journal
   table_is =
@@ -146,6 +156,5 @@ module _ (rules : RulesParts) (journal : Journal) (orderly : IsOrderly rules jou
       })
       ∙ (λ i. record {
         races = scored journal;
-        rows = all.rows rules (entered journal) (columns_are i);
+        rows = rows_are_over (scored journal) races_within i;
       })
-      ∙ (λ i. record { races = scored journal; rows = rows_are i })

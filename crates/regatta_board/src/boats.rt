@@ -1,5 +1,5 @@
 //! The entry list.
-ghost use Rattle.std.specs.Prelude.{◌≡◌, ◌<◌, ◌++◌, ◌∷◌, [], length, slice_index_or};
+ghost use Rattle.std.specs.Prelude.{◌≡◌, ◌<◌, ◌≤◌, ◌++◌, ◌∷◌, [], length, slice_index_or};
 ghost use Rattle.std.specs.Prelude.{position, false, IfOk};
 ghost use Rattle.std.specs.List.{list_any};
 ghost use Rattle.regatta_scores.specs.Journal.{same_sail};
@@ -9,6 +9,14 @@ use indexmap::IndexMap;
 use regatta_terms::Sail;
 use std::alloc::{AllocError, Global};
 use std::marker::Model;
+
+/// The number of the boat at this index of the entry list.
+pub(crate) fn number_at(index: usize) -> u16
+    requires { index ≤ limits.boats }
+    ensures { result ≡ index }
+{
+    index as u16
+}
 
 /// The boats entered, in order of entry, each once. A boat's number is her position in the list,
 /// from 0.
@@ -65,7 +73,7 @@ impl Boats {
         requires { length self.now < limits.boats }
         ensures { result ≡ length self.now }
     {
-        self.len() as u16
+        number_at(self.len())
     }
 
     /// Copies the list and appends a boat.

@@ -12,7 +12,7 @@ ghost use Rattle.regatta_board.specs.KeptJournal.{number as number_of};
 ghost use Rattle.regatta_board.specs.Refusals.{is_entered, limits};
 
 use crate::board::Board;
-use crate::boats::Boats;
+use crate::boats::{Boats, number_at};
 use regatta_scores::{
     Held, Items, RaceBasis, Scoring, SheetGroup, placed_groups, race_basis, scorings,
 };
@@ -117,7 +117,7 @@ impl Board {
         ensures { result
             ≡ held_of self.now.entries race (boat_at (entered self.now.entries) number) }
     {
-        self.kept().held(race, number as u16)
+        self.kept().held(race, number_at(number))
     }
 
     /// The corrected time of the boat with this number in the race, if one is in force (RRS A3).
@@ -126,7 +126,7 @@ impl Board {
         ensures { result
             ≡ time_of self.now.entries race (boat_at (entered self.now.entries) number) }
     {
-        self.kept().sheet(race).seconds(number as u16)
+        self.kept().sheet(race).seconds(number_at(number))
     }
 
     /// What the race is scored by (RRS A5.2, A5.3, 44.3(c)).

@@ -12,8 +12,10 @@ ghost use Rattle.regatta_board.specs.Scoring.{columns_in, with_column, touched_a
 ghost use Rattle.regatta_board.specs.Scoring.{IsPushed, IsTurned, AreNewLines};
 ghost use Rattle.regatta_board.specs.Table.{lines as lines_of, table as table_of, IsKept};
 
+mod ranks;
 pub(crate) mod update;
 
+use crate::boats::number_at;
 use crate::column::{Column, NewColumn, all_columns, current_columns, push_columns};
 use crate::kept::{Kept, index_of};
 use crate::table::{races, sorted_rows};
@@ -95,7 +97,7 @@ fn push_line(
 {
     let line = boat_line(columns, boat, rules);
     made.push(NewLine {
-        boat: boat as u16,
+        boat: number_at(boat),
         line,
     })?;
     Ok(())

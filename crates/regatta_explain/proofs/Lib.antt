@@ -1,3 +1,4 @@
+pub mod BareTexts
 pub mod RowFacts
 pub mod SumFacts
 pub mod TwoPieces

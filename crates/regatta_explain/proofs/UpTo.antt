@@ -1,39 +1,39 @@
--- A lawful journal without the Score and Unscore of later races is lawful.
+-- The table of a journal without the Score and Unscore of later races is that of the first races
+-- that count.
 use Rattle.std.proofs.Common.{◌≡◌, ℕ, ◌+◌, ◌<◌, ◌≤◌, Bool, true, false, cond, not, List, [], ◌∷◌, ◌++◌}
-use Rattle.std.proofs.Common.{refl, ap, ◌∙◌, sym, arith, length, map, filter, filter_map, fold, ◌||◌}
-use Rattle.std.proofs.Common.{◌&&◌, subst, nat_eq, nat_le, nat_lt, Option, Some, None, is_none, count_by, unwrap_or}
-use Rattle.std.specs.List.{after_last, cons_option, last_or, list_any}
-use Rattle.std.proofs.lemmas.Bool.{leb-false, lt-leb}
+use Rattle.std.proofs.Common.{refl, ap, ◌∙◌, sym, arith, length, map, filter, filter_map, fold, get_or}
+use Rattle.std.proofs.Common.{◌&&◌, ◌||◌, nat_eq, nat_lt, Some, None, count_by, suc, take, unwrap_or, zero}
+use Rattle.std.specs.List.{after_last, cons_option, last_or, list_any, range_with_len}
+use Rattle.std.specs.Prelude.{zip}
+use Rattle.std.proofs.lemmas.Bool.{le-ltb, lt-ltb}
+use Rattle.std.proofs.lemmas.List.FromFn.{get_or-map-range_with_len, length-map-range_with_len}
 use borrow.Author.Tests.{eqb-true}
-use Rattle.std.proofs.lemmas.List.{append-nil}
-use Rattle.std.proofs.lemmas.List.Elements.{filter-append}
 use Rattle.regatta_terms.specs.Effects.{Act, AheadOf, AtEnd, ByTime, Counts, Decides, Decision, Effect}
 use Rattle.regatta_terms.specs.Effects.{Enters, InRace, Places, Strikes, TiedWith, effect}
 use Rattle.regatta_terms.specs.Entries.{EntryParts}
-use Rattle.regatta_terms.specs.Roles.{may_send}
 use Rattle.regatta_terms.specs.Rules.{RulesParts}
 use Rattle.regatta_terms.specs.declared.command.PenaltyKind.TheVariants.{Zfp, Scp}
-use Rattle.regatta_terms.specs.declared.command.Role.{Role}
-use Rattle.regatta_terms.specs.declared.reply.Refusal.{Refusal}
-use Rattle.regatta_terms.specs.declared.reply.Refusal.TheVariants.{AlreadyEntered, AlreadyPlaced}
-use Rattle.regatta_terms.specs.declared.reply.Refusal.TheVariants.{AlreadyScored, EntryFull, JournalFull}
-use Rattle.regatta_terms.specs.declared.reply.Refusal.TheVariants.{NoFinisher, NotEntered, NotPlaced}
-use Rattle.regatta_terms.specs.declared.reply.Refusal.TheVariants.{NotScored, NotYours, OldNumber}
-use Rattle.regatta_terms.specs.declared.reply.Refusal.TheVariants.{WrongSystem}
+use Rattle.regatta_terms.specs.declared.limits.TheConstants.{MAX_RACES}
 use Rattle.regatta_terms.specs.declared.sail.Sail.{Sail}
 use Rattle.regatta_scores.specs.CorrectedTimes.{order_of_times}
 use Rattle.regatta_scores.specs.Journal.{Journal, act_in, acts, code_marked, decision_on, ends_time}
-use Rattle.regatta_scores.specs.Journal.{entered, held, is_clear, is_of_other_system, is_penalty}
-use Rattle.regatta_scores.specs.Journal.{is_scored, lasting_times, order, order_after, race_counts}
-use Rattle.regatta_scores.specs.Journal.{redress_given, sail_entered, same_sail}
-use Rattle.regatta_scores.specs.Order.{is_empty, stands_in}
+use Rattle.regatta_scores.specs.Journal.{entered, held, is_clear, is_penalty, is_scored, lasting_times}
+use Rattle.regatta_scores.specs.Journal.{order, order_after, race_counts, redress_given, sail_entered}
+use Rattle.regatta_scores.specs.Journal.{same_sail, scored}
+use Rattle.regatta_scores.specs.Lines.{line_by, row_by}
+use Rattle.regatta_scores.specs.Outcomes.{outcome, score_of}
+use Rattle.regatta_scores.specs.RacePoints.{Race, journal_race}
+use Rattle.regatta_scores.specs.Ranking.{place}
+use Rattle.regatta_scores.specs.Standing.{sorted_rows, standing}
 use Rattle.regatta_scores.specs.declared.sheet.Held.{Held}
+use Rattle.regatta_scores.specs.declared.table.Row.{Row}
 use Rattle.regatta_scores.proofs.TiedTimes.{map_filter}
-use Rattle.regatta_board.specs.Refusals.{command_refusal, decision_refusal, is_lawful}
-use Rattle.regatta_board.specs.Refusals.{last_number, limits, refusal, refused_from}
-use Rattle.regatta_board.proofs.LastNumber.{number_push}
-use Rattle.regatta_board.proofs.Lawful.{is_none_so, no_test, none_refused, refused_or}
+use Rattle.regatta_board.specs.RanksAfter.{boat_rank, ranks_after, ranks_after_each, rows_over}
+use Rattle.regatta_board.proofs.Maps.{map_map}
 use Rattle.regatta_explain.specs.Depends.{counts_later, up_to}
+use Rattle.regatta_explain.specs.Explained.{rank_part, ranks_after as after_of}
+use Rattle.regatta_explain.specs.AfterRaces.{after_by, rank_by}
+use Rattle.regatta_explain.proofs.Zips.{zipped_known}
 
 -- ---- acts without those by which a race counts
 
@@ -263,173 +263,156 @@ module _ (race : ℕ) where
       ap (λ (done : List Act). unwrap_or (last_or None (filter_map race_counts done)) false)
       (early_acts journal r early)
 
-  -- ---- what is refused
+  -- no later race counts
+  uncounted : (done : List Act) → filter_map race_counts (thinned done) ≡ []
+  uncounted [] = refl
+  uncounted (Counts counts ∷ done) = uncounted done
+  uncounted (Places sail placing ∷ done) = uncounted done
+  uncounted (Strikes sail ∷ done) = uncounted done
+  uncounted (Decides sail decision ∷ done) = uncounted done
 
-  command_same : (rules : RulesParts) (journal : Journal) (role : Role) (e : Effect)
-      → counts_later race e ≡ false
-      → command_refusal limits rules (up_to journal race) role e
-      ≡ command_refusal limits rules journal role e
-  command_same rules journal role (Enters sail) early i =
-      let boats = same_entered journal i in
-      cond (list_any (same_sail sail) boats) (Some AlreadyEntered)
-      (cond (nat_le limits.boats (length boats)) (Some EntryFull) None)
-  command_same rules journal role (InRace r (Places sail AtEnd)) early i =
-      let boats = same_entered journal i in
-      let placed = stands_in same_sail sail (same_order rules journal r i) in
-      cond (not (list_any (same_sail sail) boats)) (Some NotEntered)
-      (cond placed (Some AlreadyPlaced) None)
-  command_same rules journal role (InRace r (Places sail (ByTime seconds))) early i =
-      let boats = same_entered journal i in
-      let placed = stands_in same_sail sail (same_order rules journal r i) in
-      cond (not (list_any (same_sail sail) boats)) (Some NotEntered)
-      (cond placed (Some AlreadyPlaced) None)
-  command_same rules journal role (InRace r (Places sail (TiedWith other))) early i =
-      let boats = same_entered journal i in
-      let stands = same_order rules journal r i in
-      cond (not (list_any (same_sail sail) boats && list_any (same_sail other) boats))
-      (Some NotEntered)
-      (cond (stands_in same_sail sail stands) (Some AlreadyPlaced)
-      (cond (not (stands_in same_sail other stands)) (Some NotPlaced) None))
-  command_same rules journal role (InRace r (Places sail (AheadOf other))) early i =
-      let boats = same_entered journal i in
-      let stands = same_order rules journal r i in
-      cond (not (list_any (same_sail sail) boats && list_any (same_sail other) boats))
-      (Some NotEntered)
-      (cond (stands_in same_sail sail stands) (Some AlreadyPlaced)
-      (cond (not (stands_in same_sail other stands)) (Some NotPlaced) None))
-  command_same rules journal role (InRace r (Strikes sail)) early i =
-      let boats = same_entered journal i in
-      let placed = stands_in same_sail sail (same_order rules journal r i) in
-      cond (not (list_any (same_sail sail) boats)) (Some NotEntered)
-      (cond (not placed) (Some NotPlaced) None)
-  command_same rules journal role (InRace r (Decides sail decision)) early i =
-      let boats = same_entered journal i in
-      cond (not (list_any (same_sail sail) boats)) (Some NotEntered)
-      (decision_refusal role (same_held journal r sail i) decision)
-  command_same rules journal role (InRace r (Counts true)) early i =
-      cond (same_scored journal r early i) (Some AlreadyScored)
-      (cond (is_empty (same_order rules journal r i)) (Some NoFinisher) None)
-  command_same rules journal role (InRace r (Counts false)) early i =
-      cond (same_scored journal r early i) None (Some NotScored)
+  scored_late : (journal : Journal) (r : ℕ) → nat_lt race r ≡ true
+      → is_scored (up_to journal race) r ≡ false
+  scored_late journal r late =
+      ap (λ (done : List Act). unwrap_or (last_or None (filter_map race_counts done)) false)
+      (late_acts journal r late)
+      ∙ ap (λ (told : List Bool). unwrap_or (last_or None told) false)
+      (uncounted (acts journal r))
 
-  -- no number has been used that wasn't
-  abbrev AreLower : Journal → Type 0
-  AreLower journal =
-      (seat : ℕ) → last_number (up_to journal race) seat ≤ last_number journal seat
-
-  shorter : (journal : Journal) → length (up_to journal race) ≤ length journal
-  shorter [] = omega arith
-  shorter (e ∷ journal) = by (stays (effect e.command)) (shorter journal)
+  scored_so_far : (journal : Journal) (r : ℕ)
+      → is_scored (up_to journal race) r ≡ (not (nat_lt race r) && is_scored journal r)
+  scored_so_far journal r = by (nat_lt race r) refl
     where
-      by : (b : Bool) → length (up_to journal race) ≤ length journal
-          → length (cond b (e ∷ up_to journal race) (up_to journal race)) ≤ length (e ∷ journal)
-      by true rest = omega (arith, rest)
-      by false rest = omega (arith, rest)
+      by : (late : Bool) → nat_lt race r ≡ late
+          → is_scored (up_to journal race) r ≡ (not late && is_scored journal r)
+      by true e = scored_late journal r e
+      by false e = same_scored journal r e
 
-  passes : {X : Type 0} (b : Bool) (x : X) (rest : Option X) → b ≡ false → rest ≡ None
-      → cond b (Some x) rest ≡ None
-  passes true x rest fails none = cc
-  passes false x rest fails none = none
+  -- ---- the rows of the table
 
-  refusal_same : (rules : RulesParts) (journal : Journal) (e : EntryParts) → AreLower journal
-      → counts_later race (effect e.command) ≡ false → refusal limits rules journal e ≡ None
-      → refusal limits rules (up_to journal race) e ≡ None
-  refusal_same rules journal e lower early none =
-      let full = no_test (nat_le limits.entries (length journal)) _ _ none in
-      let number = no_test (nat_le e.nth (last_number journal e.seat)) _ _ full.1 in
-      let yours = no_test (not (may_send e.role e.command)) _ _ number.1 in
-      let system = no_test (is_of_other_system rules (effect e.command)) _ _ yours.1 in
-      let room : length journal < limits.entries = leb-false _ _ full.0 in
-      let above : last_number journal e.seat < e.nth = leb-false _ _ number.0 in
-      passes (nat_le limits.entries (length (up_to journal race))) JournalFull _
-      (lt-leb _ _ (omega (arith, room, shorter journal)))
-      (passes (nat_le e.nth (last_number (up_to journal race) e.seat))
-      (OldNumber (last_number (up_to journal race) e.seat)) _
-      (lt-leb _ _ (omega (arith, above, lower e.seat)))
-      (passes (not (may_send e.role e.command)) NotYours _ yours.0
-      (passes (is_of_other_system rules (effect e.command)) WrongSystem _ system.0
-      (command_same rules journal e.role (effect e.command) early ∙ system.1))))
+  same_race : (rules : RulesParts) (journal : Journal) (r : ℕ)
+      → journal_race rules (up_to journal race) r ≡ journal_race rules journal r
+  same_race rules journal r i = record {
+    entered = same_entered journal i;
+    order = same_order rules journal r i;
+    held = λ boat. same_held journal r boat i;
+  }
 
-  up_to_push : (journal : Journal) (e : EntryParts)
-      → up_to (journal ++ e ∷ []) race
-      ≡ up_to journal race ++ cond (stays (effect e.command)) (e ∷ []) []
-  up_to_push journal e =
-      filter-append (λ (entry : EntryParts). stays (effect entry.command)) journal (e ∷ [])
+  -- the rows by what comes of these boats in these races
+  abbrev rows_by : RulesParts → List Sail → (ℕ → Race Sail) → List ℕ → List Row
+  rows_by rules boats race_of races =
+      let scores = λ (boat : Sail).
+      map (λ r. score_of (outcome same_sail rules (race_of r) boat)) races in
+      let hers = λ (boat : Sail). line_by rules (scores boat) in
+      sorted_rows (map (λ boat.
+      row_by boat (place (map hers boats) (hers boat)) (hers boat) (scores boat)) boats)
 
-  lower_kept : (before : Journal) (e : EntryParts) → AreLower before → (seat : ℕ)
-      → last_number (up_to before race ++ e ∷ []) seat ≤ last_number (before ++ e ∷ []) seat
-  lower_kept before e lower seat =
-      by (nat_eq e.seat seat) (number_push (up_to before race) e seat) (number_push before e seat)
-      (lower seat)
-    where
-      by : (b : Bool)
-          → last_number (up_to before race ++ e ∷ []) seat
-          ≡ cond b e.nth (last_number (up_to before race) seat)
-          → last_number (before ++ e ∷ []) seat ≡ cond b e.nth (last_number before seat)
-          → last_number (up_to before race) seat ≤ last_number before seat
-          → last_number (up_to before race ++ e ∷ []) seat ≤ last_number (before ++ e ∷ []) seat
-      by true is was rest = omega (arith, is, was)
-      by false is was rest = omega (arith, is, was, rest)
+  same_rows : (rules : RulesParts) (journal : Journal) (races : List ℕ)
+      → rows_over rules (up_to journal race) races ≡ rows_over rules journal races
+  same_rows rules journal races i =
+      rows_by rules (same_entered journal i) (λ r. same_race rules journal r i) races
 
-  lower_left : (before : Journal) (e : EntryParts) → AreLower before
-      → last_number before e.seat < e.nth → (seat : ℕ)
-      → last_number (up_to before race) seat ≤ last_number (before ++ e ∷ []) seat
-  lower_left before e lower above seat =
-      by (nat_eq e.seat seat) refl (number_push before e seat) (lower seat)
-    where
-      by : (b : Bool) → nat_eq e.seat seat ≡ b
-          → last_number (before ++ e ∷ []) seat ≡ cond b e.nth (last_number before seat)
-          → last_number (up_to before race) seat ≤ last_number before seat
-          → last_number (up_to before race) seat ≤ last_number (before ++ e ∷ []) seat
-      by true here was rest =
-          let same : last_number before e.seat ≡ last_number before seat =
-          ap (last_number before) (eqb-true e.seat seat here) in
-          omega (arith, was, rest, same, above)
-      by false here was rest = omega (arith, was, rest)
+-- ---- the first races that count
 
-  -- no entry that stays is refused
-  replay_same : (rules : RulesParts) (before es : Journal) → AreLower before
-      → refused_from limits rules before es ≡ None
-      → refused_from limits rules (up_to before race) (up_to es race) ≡ None
-  replay_same rules before [] lower none = refl
-  replay_same rules before (e ∷ es) lower none =
-      let parts = none_refused (refusal limits rules before e) (length before + 1) _ none in
-      by (counts_later race (effect e.command)) refl parts.0
-      (replay_same rules (before ++ e ∷ []) es)
-      parts.1
-    where
-      by : (later : Bool) → counts_later race (effect e.command) ≡ later
-          → refusal limits rules before e ≡ None
-          → (AreLower (before ++ e ∷ []) → refused_from limits rules (before ++ e ∷ []) es ≡ None
-          → refused_from limits rules (up_to (before ++ e ∷ []) race) (up_to es race) ≡ None)
-          → refused_from limits rules (before ++ e ∷ []) es ≡ None
-          → refused_from limits rules (up_to before race)
-          (cond (not later) (e ∷ up_to es race) (up_to es race)) ≡ None
-      by true f free rest next =
-          let same : up_to (before ++ e ∷ []) race ≡ up_to before race =
-          up_to_push before e
-          ∙ ap (λ (b : Bool). up_to before race ++ cond (not b) (e ∷ []) []) f
-          ∙ append-nil (up_to before race) in
-          let full = no_test (nat_le limits.entries (length before)) _ _ free in
-          let above = leb-false _ _
-          (no_test (nat_le e.nth (last_number before e.seat)) _ _ full.1).0 in
-          ap (λ (j : Journal). refused_from limits rules j (up_to es race)) (sym same)
-          ∙ rest (λ seat. subst (λ (j : Journal). last_number j seat ≤ last_number (before ++ e ∷ []) seat)
-          (sym same) (lower_left before e lower above seat)) next
-      by false f free rest next =
-          let same : up_to (before ++ e ∷ []) race ≡ up_to before race ++ e ∷ [] =
-          up_to_push before e
-          ∙ ap (λ (b : Bool). up_to before race ++ cond (not b) (e ∷ []) []) f in
-          ap (λ (o : Option Refusal). refused_or o (length (up_to before race) + 1)
-          (refused_from limits rules (up_to before race ++ e ∷ []) (up_to es race)))
-          (refusal_same rules before e lower f free)
-          ∙ ap (λ (j : Journal). refused_from limits rules j (up_to es race)) (sym same)
-          ∙ rest (λ seat. subst (λ (j : Journal). last_number j seat ≤ last_number (before ++ e ∷ []) seat)
-          (sym same) (lower_kept before e lower seat)) next
+-- no number above another is at most that one
+none_above : (p : ℕ → Bool) (x n s : ℕ) → x < s
+    → filter (λ r. not (nat_lt x r) && p r) (range_with_len s n) ≡ []
+none_above p x zero s h = refl
+none_above p x (suc n) s h =
+    ap (λ (b : Bool). cond (not b && p s)
+    (s ∷ filter (λ r. not (nat_lt x r) && p r) (range_with_len (s + 1) n))
+    (filter (λ r. not (nat_lt x r) && p r) (range_with_len (s + 1) n))) (lt-ltb x s h)
+    ∙ none_above p x n (s + 1) (omega (arith, h))
 
--- a lawful journal stays lawful without the Score and Unscore of later races
-pub up_to_lawful : (rules : RulesParts) (journal : Journal) (race : ℕ)
-    → is_lawful limits rules journal ≡ true → is_lawful limits rules (up_to journal race) ≡ true
-up_to_lawful rules journal race lawful =
-    ap is_none (replay_same race rules [] journal (λ seat. omega arith)
-    (is_none_so (refused_from limits rules [] journal) lawful))
+-- the numbers of a range that pass a test are no lower than its first
+no_lower : (p : ℕ → Bool) (n s i : ℕ) → i < length (filter p (range_with_len s n))
+    → s ≤ get_or (filter p (range_with_len s n)) i 0
+no_lower p zero s i h = absurd (omega (arith, h))
+no_lower p (suc n) s i h = by (p s) i (no_lower p n (s + 1)) h
+  where
+    rest : List ℕ
+    rest = filter p (range_with_len (s + 1) n)
+
+    by : (b : Bool) (i : ℕ) → ((j : ℕ) → j < length rest → s + 1 ≤ get_or rest j 0)
+        → i < length (cond b (s ∷ rest) rest) → s ≤ get_or (cond b (s ∷ rest) rest) i 0
+    by true zero later h = omega arith
+    by true (suc j) later h = (let low = later j (omega (arith, h)) in omega (arith, low))
+    by false i later h = (let low = later i h in omega (arith, low))
+
+-- of those, the ones that are no higher than the one at a position are the first
+first_passed : (p : ℕ → Bool) (n s i : ℕ) → i < length (filter p (range_with_len s n))
+    → filter (λ r. not (nat_lt (get_or (filter p (range_with_len s n)) i 0) r) && p r)
+    (range_with_len s n)
+    ≡ take (i + 1) (filter p (range_with_len s n))
+first_passed p zero s i h = absurd (omega (arith, h))
+first_passed p (suc n) s i h =
+    by (p s) i (first_passed p n (s + 1)) (no_lower p n (s + 1)) h
+  where
+    rest : List ℕ
+    rest = filter p (range_with_len (s + 1) n)
+
+    low : ℕ → List ℕ
+    low x = filter (λ r. not (nat_lt x r) && p r) (range_with_len (s + 1) n)
+
+    by : (b : Bool) (i : ℕ)
+        → ((j : ℕ) → j < length rest → low (get_or rest j 0) ≡ take (j + 1) rest)
+        → ((j : ℕ) → j < length rest → s + 1 ≤ get_or rest j 0)
+        → i < length (cond b (s ∷ rest) rest)
+        → cond (not (nat_lt (get_or (cond b (s ∷ rest) rest) i 0) s) && b)
+        (s ∷ low (get_or (cond b (s ∷ rest) rest) i 0)) (low (get_or (cond b (s ∷ rest) rest) i 0))
+        ≡ take (i + 1) (cond b (s ∷ rest) rest)
+    by true zero passed above h =
+        ap (λ (b : Bool). cond (not b && true) (s ∷ low s) (low s)) (le-ltb s s (omega arith))
+        ∙ ap (λ (xs : List ℕ). s ∷ xs) (none_above p s n (s + 1) (omega arith))
+    by true (suc j) passed above h =
+        let x = get_or rest j 0 in
+        let within : j < length rest = omega (arith, h) in
+        let next : suc j + 1 ≡ suc (j + 1) = omega arith in
+        ap (λ (b : Bool). cond (not b && true) (s ∷ low x) (low x))
+        (le-ltb x s (omega (arith, above j within)))
+        ∙ ap (λ (xs : List ℕ). s ∷ xs) (passed j within)
+        ∙ ap (λ (k : ℕ). take k (s ∷ rest)) (sym next)
+    by false i passed above h =
+        by_either (not (nat_lt (get_or rest i 0) s)) ∙ passed i h
+      where
+        by_either : (b : Bool)
+            → cond (b && false) (s ∷ low (get_or rest i 0)) (low (get_or rest i 0))
+            ≡ low (get_or rest i 0)
+        by_either true = refl
+        by_either false = refl
+
+-- up to the race at a position, these races count
+scored_up_to : (journal : Journal) (race i : ℕ) → i < length (scored journal)
+    → race ≡ get_or (scored journal) i 0
+    → scored (up_to journal race) ≡ take (i + 1) (scored journal)
+scored_up_to journal race i within is =
+    (λ t. filter (λ r. scored_so_far race journal r t) (range_with_len 1 MAX_RACES))
+    ∙ ap (λ (x : ℕ). filter (λ r. not (nat_lt x r) && is_scored journal r)
+    (range_with_len 1 MAX_RACES)) is
+    ∙ first_passed (is_scored journal) MAX_RACES 1 i within
+
+-- the ranks after that race
+pub ranks_are : (rules : RulesParts) (journal : Journal) (race i : ℕ) → i < length (scored journal)
+    → race ≡ get_or (scored journal) i 0
+    → map rank_part (standing rules (up_to journal race)).rows
+    ≡ map rank_by (ranks_after rules journal (i + 1))
+ranks_are rules journal race i within is =
+    ap (λ (races : List ℕ). map rank_part (rows_over rules (up_to journal race) races))
+    (scored_up_to journal race i within is)
+    ∙ ap (map rank_part) (same_rows race rules journal (take (i + 1) (scored journal)))
+    ∙ sym (map_map rank_by boat_rank (rows_over rules journal (take (i + 1) (scored journal))))
+
+-- the ranks after each race that counts
+pub all_after : (rules : RulesParts) (journal : Journal)
+    → map after_by (zip (scored journal) (ranks_after_each rules journal))
+    ≡ map (after_of rules journal) (scored journal)
+unfolding after_of
+all_after rules journal =
+    zipped_known after_by (after_of rules journal) (scored journal) (ranks_after_each rules journal)
+    (length-map-range_with_len (ranks_after rules journal) 1 (length (scored journal)))
+    (λ i within. (let race = get_or (scored journal) i 0 in
+    let ranks = ranks_are rules journal race i within refl in
+    let known : get_or (ranks_after_each rules journal) i [] ≡ ranks_after rules journal (i + 1) =
+    get_or-map-range_with_len (ranks_after rules journal) 1 (length (scored journal)) i (i + 1) []
+    within (omega arith) in
+    λ t. record { race = race; ranks = (ap (map rank_by) known ∙ sym ranks) t }))

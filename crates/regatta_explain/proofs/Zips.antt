@@ -1,8 +1,8 @@
 -- Races with the scores in them.
 use Rattle.std.proofs.Common.{◌≡◌, ℕ, ◌+◌, ◌-◌, ◌<◌, Bool, true, false, List, [], ◌∷◌, ◌++◌, suc, zero}
-use Rattle.std.proofs.Common.{length, drop, take, get_or, refl, ap, sym, ◌∙◌, arith}
+use Rattle.std.proofs.Common.{length, drop, map, take, get_or, refl, ap, sym, ◌∙◌, arith}
 use Rattle.std.specs.Prelude.{filter, zip, cond, if◌then◌else◌}
-use Rattle.std.proofs.lemmas.List.{length-drop, map-append, take_all, take_more}
+use Rattle.std.proofs.lemmas.List.{length-drop, map-append, map_more, take_all, take_more}
 use Rattle.std.proofs.lemmas.List.Elements.{filter-append}
 use Rattle.std.proofs.lemmas.Slice.Zip.{get_or-zip, length-zip}
 use Rattle.regatta_scores.specs.Averages.{is_own}
@@ -86,3 +86,25 @@ own_others races scores i =
     ∙ sym (ap counted_races (filter-append has_own (take i (zip races scores)) (drop (suc i) (zip races scores)))
     ∙ map-append (λ (score : ℕ × RaceScore). score.0) (filter has_own (take i (zip races scores)))
     (filter has_own (drop (suc i) (zip races scores))))
+
+-- what is made of two lists side by side, in one place more
+pub zipped_more : {A B C : Type 0} (f : A × B → C) (xs : List A) (ys : List B) (i : ℕ) (x : A) (y : B)
+    → i < length xs → length ys ≡ length xs → x ≡ get_or xs i x → y ≡ get_or ys i y
+    → map f (take (i + 1) (zip xs ys)) ≡ map f (take i (zip xs ys)) ++ f (x, y) ∷ []
+zipped_more f xs ys i x y within equal is_x is_y =
+    let below : i < length (zip xs ys) = omega (arith, within, equal, length-zip xs ys) in
+    map_more f (zip xs ys) i (x, y) below
+    ∙ ap (λ z. map f (take i (zip xs ys)) ++ f z ∷ [])
+    (get_or-zip xs ys i (x, y) within (omega (arith, within, equal))
+    ∙ (λ t. (sym is_x t, sym is_y t)))
+
+-- two lists side by side, if what is made of each place is known
+pub zipped_known : {B C : Type 0} (f : ℕ × List B → C) (g : ℕ → C) (xs : List ℕ) (ys : List (List B))
+    → length ys ≡ length xs
+    → ((i : ℕ) → i < length xs → f (get_or xs i 0, get_or ys i []) ≡ g (get_or xs i 0))
+    → map f (zip xs ys) ≡ map g xs
+zipped_known f g [] ys equal same = refl
+zipped_known f g (x ∷ xs) [] equal same = absurd (omega (arith, equal))
+zipped_known f g (x ∷ xs) (y ∷ ys) equal same =
+    λ t. same 0 (omega arith) t ∷ zipped_known f g xs ys (omega (arith, equal))
+    (λ i h. same (suc i) (omega (arith, h))) t

@@ -1,3 +1,4 @@
+pub mod AfterRaces
 pub mod Averaged
 pub mod Depends
 pub mod Documents

@@ -1,6 +1,6 @@
 -- Parts of the document, from what code has of them.
 use Rattle.std.specs.Prelude.{◌≡◌, ℕ, Bool, false, true, not, ◌||◌, List, [], map, Option, None}
-use Rattle.std.specs.Prelude.{is_some, slice_index_or, zip}
+use Rattle.std.specs.Prelude.{◌&&◌, ◌++◌, codes, is_none, is_some, length, nat_eq, slice_index_or, zip}
 use Rattle.std.specs.List.{enumerate_from}
 use Rattle.regatta_terms.specs.Rules.{RulesParts}
 use Rattle.regatta_terms.specs.declared.sail.Sail.{Sail}
@@ -23,6 +23,8 @@ use Rattle.regatta_explain.specs.declared.parts.NeighbourPart.{NeighbourPart}
 use Rattle.regatta_explain.specs.declared.parts.ScorePart.{ScorePart}
 use Rattle.regatta_explain.specs.Averaged.{counted, counted_races, counted_sum}
 use Rattle.regatta_explain.specs.Explained.{group_part}
+use Rattle.regatta_json.specs.Rows.{flag_text}
+use Rattle.regatta_explain.specs.Rows.{field, mark_value, penalties_text, redress_text}
 use Rattle.regatta_explain.specs.Separations.{separation}
 
 -- a group that the board gives
@@ -124,3 +126,25 @@ neighbour_by races pair = record {
   second = pair.1.sail;
   rule = separation races (line_of_row pair.0) (line_of_row pair.1);
 }
+
+-- ---- texts
+
+-- whether a boat has no code, penalty, redress and time in a race
+abbrev pub is_bare : HeldPart → Bool
+is_bare part =
+    is_none part.code && nat_eq part.zfp 0 && nat_eq part.scp 0 && is_none part.redress
+    && is_none part.seconds
+
+-- the text of her code, penalties, redress and time
+unfoldable pub holdings_text : HeldPart → List ℕ
+holdings_text part = penalties_text part ++ redress_text part
+
+-- whether she has no redress in a race, and no average
+abbrev pub has_no_redress : ScorePart → Bool
+has_no_redress part =
+    is_none part.redress && nat_eq (length part.averaged) 0 && nat_eq part.sum 0
+
+-- the text of her abbreviation, and of whether the score is excluded
+unfoldable pub mark_text : ScorePart → List ℕ
+mark_text part = field (codes ",\"mark\":") (mark_value part.mark)
+    ++ field (codes ",\"excluded\":") (flag_text part.excluded) ++ codes "}"

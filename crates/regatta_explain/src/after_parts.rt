@@ -1,116 +1,75 @@
 //! The ranks after each race that counts.
 
-ghost use Rattle.std.specs.Prelude.{◌≡◌, ◌++◌, ◌∷◌, [], map, not, IfErr, IfOk, OnOk};
-ghost use Rattle.std.specs.Prelude.{if◌then◌else◌};
-ghost use Rattle.regatta_terms.specs.Effects.{effect};
-ghost use Rattle.regatta_scores.specs.Standing.{standing};
-ghost use Rattle.regatta_explain.specs.Depends.{counts_later as counts_later_by, up_to};
+ghost use Rattle.std.specs.Prelude.{◌≡◌, length, map, zip, IfOk};
+ghost use Rattle.regatta_scores.specs.Journal.{scored};
 ghost use Rattle.regatta_explain.specs.Explained.{ranks_after as ranks_after_of};
+ghost use Rattle.regatta_explain.specs.AfterRaces.{after_by, rank_by};
 
-use crate::makers::ranks_after;
-use crate::parts::RanksAfter;
-use regatta_board::{Board, ReplayFault, standing_of};
-use regatta_scores::{Items, Standing};
-use regatta_terms::{Command, Entry, RaceNo};
+use crate::parts::{RankPart, RanksAfter};
+use regatta_board::{Board, BoatRank};
+use regatta_scores::Items;
+use regatta_terms::RaceNo;
 use std::alloc::{AllocError, Global};
 
-/// Whether a command says that a race after this one counts, or no longer.
-fn counts_later(race: RaceNo, command: Command) -> bool
-    ensures { result ≡ counts_later_by race (effect command) }
+/// A boat's rank, as the document has it.
+fn rank_part(rank: &BoatRank) -> RankPart
+    ensures { result ≡ rank_by rank.now }
 {
-    match command {
-        Command::Score { race: other } | Command::Unscore { race: other } => {
-            race.get() < other.get()
-        }
-        Command::Enter { .. }
-        | Command::Finish { .. }
-        | Command::Tie { .. }
-        | Command::Before { .. }
-        | Command::Time { .. }
-        | Command::Strike { .. }
-        | Command::Mark { .. }
-        | Command::Penalise { .. }
-        | Command::Redress { .. }
-        | Command::Clear { .. } => false,
+    RankPart {
+        sail: rank.sail,
+        rank: rank.rank,
+        tied: rank.tied,
     }
 }
 
-/// Appends an entry, unless it says that a later race counts, or no longer.
-fn push_unless_later(kept: &mut Vec<Entry>, entry: Entry, race: RaceNo) -> Result<(), AllocError>
-    ensures { OnOk result (kept.new.items ≡ kept.old.items
-        ++ (if not (counts_later_by race (effect entry.command)) then entry ∷ [] else [])) }
+fn rank_parts(alloc: Global, ranks: &[BoatRank]) -> Result<Vec<RankPart>, AllocError>
+    ensures { IfOk result (λ parts. parts.items ≡ map rank_by ranks.now) }
 {
-    if !counts_later(race, entry.command()) {
-        kept.push(entry)?;
+    let mut parts = Vec::with_capacity(alloc, ranks.len())?;
+    for rank in ranks {
+        parts.push(rank_part(rank))?;
     }
-    Ok(())
+    Ok(parts)
 }
 
-/// The entries without the Score and Unscore of later races.
-fn entries_up_to(alloc: Global, entries: &[Entry], race: RaceNo) -> Result<Vec<Entry>, AllocError>
-    ensures { IfOk result (λ kept. kept.items ≡ up_to entries.now race) }
+/// The ranks after a race, as the document has them.
+fn ranks_after(alloc: Global, race: RaceNo, ranks: &[BoatRank]) -> Result<RanksAfter, AllocError>
+    ensures { IfOk result (λ after. after ≡ after_by (race, ranks.now)) }
 {
-    let mut kept = Vec::with_capacity(alloc, entries.len())?;
-    for entry in entries {
-        push_unless_later(&mut kept, *entry, race)?;
-    }
-    Ok(kept)
+    let parts = rank_parts(alloc, ranks)?;
+    Ok(RanksAfter {
+        race,
+        ranks: Items::new(parts),
+    })
 }
 
-/// The standing without later races.
-fn standing_up_to(
+/// The ranks after each of these races, as the document has them.
+fn after_each(
     alloc: Global,
-    board: &Board,
-    entries: &[Entry],
-    race: RaceNo,
-) -> Result<Standing, ReplayFault>
-    requires { entries.now ≡ up_to board.now.entries race }
-    ensures value { IfOk result (λ table.
-        table ≡ standing board.now.rules (up_to board.now.entries race)) }
-    ensures lawful { IfErr result (λ why. why ≡ ReplayFault.NoMemory) }
-{
-    // This call does nothing else. The proof learns that the journal is lawful, and so is this one.
-    let _ = board.entries();
-    match standing_of(alloc, board.rules(), entries) {
-        Ok(table) => Ok(table),
-        Err(why) => Err(why),
-    }
-}
-
-/// The ranks after a race.
-#[tactic(auto, unfolding(crate::specs::Explained::ranks_after))]
-fn after(alloc: Global, board: &Board, race: RaceNo) -> Result<RanksAfter, AllocError>
-    ensures { IfOk result (λ after.
-        after ≡ ranks_after_of board.now.rules board.now.entries race) }
-{
-    let entries = entries_up_to(alloc, board.entries(), race)?;
-    let Ok(table) = standing_up_to(alloc, board, &entries, race) else {
-        return Err(AllocError);
-    };
-    let ranks = ranks_after(alloc, race, &table)?;
-    Ok(ranks)
-}
-
-fn after_each(alloc: Global, board: &Board, races: &[RaceNo]) -> Result<Vec<RanksAfter>, AllocError>
-    ensures { IfOk result (λ all. all.items
-        ≡ map (ranks_after_of board.now.rules board.now.entries) races.now) }
+    races: &[RaceNo],
+    ranks: &[Items<BoatRank>],
+) -> Result<Vec<RanksAfter>, AllocError>
+    requires { length races.now ≡ length ranks.now }
+    ensures { IfOk result (λ all. all.items ≡ map after_by (zip races.now ranks.now)) }
 {
     let mut all = Vec::with_capacity(alloc, races.len())?;
-    for &race in races {
-        all.push(after(alloc, board, race)?)?;
+    for i in 0..races.len() {
+        all.push(ranks_after(alloc, races[i], ranks[i].as_slice())?)?;
     }
     Ok(all)
 }
 
-/// The ranks after each of these races.
+/// The ranks after each of the races that count.
 pub(crate) fn all_ranks(
     alloc: Global,
     board: &Board,
     races: &[RaceNo],
 ) -> Result<Items<RanksAfter>, AllocError>
+    requires { races.now ≡ scored board.now.entries }
     ensures { IfOk result (λ all. all
         ≡ map (ranks_after_of board.now.rules board.now.entries) races.now) }
 {
-    let all = after_each(alloc, board, races)?;
+    let ranks = board.ranks_after_each(alloc)?;
+    let all = after_each(alloc, races, ranks.as_slice())?;
     Ok(Items::new(all))
 }

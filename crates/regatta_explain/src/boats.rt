@@ -1,13 +1,14 @@
 //! Rows of boats, and of their scores.
 
 ghost use Rattle.std.specs.Prelude.{◌≡◌, ◌≤◌, ◌<◌, ◌++◌, ◌+◌, take, length, vec_len};
-ghost use Rattle.std.specs.Prelude.{vec_capacity, OnOk, OnErr};
+ghost use Rattle.std.specs.Prelude.{vec_capacity, IfSome, OnOk, OnErr};
+ghost use Rattle.regatta_explain.specs.Made.{has_no_redress as has_no_redress_by, mark_text};
 ghost use Rattle.regatta_explain.specs.Rows.{base_text, average_text, points_part, score_text};
 ghost use Rattle.regatta_explain.specs.Rows.{boat_text};
 
 use crate::fields::{
     push_count, push_flag, push_mark, push_number, push_points, push_race_no, push_races,
-    push_redress, push_status, push_tenths, push_word,
+    push_redress, push_status, push_tenths, push_text, push_word,
 };
 use crate::parts::{BoatPart, ScorePart};
 use regatta_json::push_pieces;
@@ -29,10 +30,10 @@ fn push_base(part: &ScorePart, out: &mut Vec<u8>) -> Result<(), AllocError>
     Ok(())
 }
 
-/// Appends her redress, and the scores that an average counts.
+/// Appends her redress, and the scores that an average counts, one after another.
 #[tactic(auto, unfolding(crate::specs::Rows::average_text))]
-fn push_average(part: &ScorePart, out: &mut Vec<u8>) -> Result<(), AllocError>
-    ensures ok { OnOk result (out.new.items ≡ out.old.items ++ average_text part.now) }
+fn push_each_average(part: &ScorePart, out: &mut Vec<u8>) -> Result<(), AllocError>
+    ensures ok { OnOk result (out.new.items ≡ out.old.items ++ (average_text part.now)) }
     ensures err { OnErr result (take (vec_len out.old) out.new.items ≡ out.old.items) }
     ensures room { vec_capacity out.old ≤ vec_capacity out.new }
     ensures full { OnErr result (vec_capacity out.old < vec_len out.old + length (average_text part.now)) }
@@ -44,18 +45,88 @@ fn push_average(part: &ScorePart, out: &mut Vec<u8>) -> Result<(), AllocError>
     Ok(())
 }
 
+/// Whether she has no redress, and so no average.
+fn has_no_redress(part: &ScorePart) -> bool
+    ensures { result ≡ has_no_redress_by part.now }
+{
+    part.redress.is_none() && part.averaged.as_slice().is_empty() && part.sum == 0
+}
+
+/// The text of no redress, if she has none.
+fn bare_average(part: &ScorePart) -> Option<&'static [u8]>
+    ensures { IfSome result (λ text. text.now ≡ average_text part.now) }
+{
+    if has_no_redress(part) {
+        Some(b",\"redress\":null,\"averaged\":[],\"sum\":0.0")
+    } else {
+        None
+    }
+}
+
+/// Appends her redress, and the scores that an average counts.
+// Most boats have none.
+fn push_average(part: &ScorePart, out: &mut Vec<u8>) -> Result<(), AllocError>
+    ensures ok { OnOk result (out.new.items ≡ out.old.items ++ (average_text part.now)) }
+    ensures err { OnErr result (take (vec_len out.old) out.new.items ≡ out.old.items) }
+    ensures room { vec_capacity out.old ≤ vec_capacity out.new }
+    ensures full { OnErr result (vec_capacity out.old < vec_len out.old + length (average_text part.now)) }
+{
+    match bare_average(part) {
+        Some(text) => push_text(text, out),
+        None => push_each_average(part, out),
+    }
+}
+
+/// Appends her abbreviation, and whether the score is excluded, one after another.
+#[tactic(auto, unfolding(crate::specs::Made::mark_text))]
+fn push_each_mark(part: &ScorePart, out: &mut Vec<u8>) -> Result<(), AllocError>
+    ensures ok { OnOk result (out.new.items ≡ out.old.items ++ (mark_text part.now)) }
+    ensures err { OnErr result (take (vec_len out.old) out.new.items ≡ out.old.items) }
+    ensures room { vec_capacity out.old ≤ vec_capacity out.new }
+    ensures full { OnErr result (vec_capacity out.old < vec_len out.old + length (mark_text part.now)) }
+{
+    push_mark(b",\"mark\":", part.mark, out)?;
+    push_flag(b",\"excluded\":", part.excluded, out)?;
+    push_pieces(out, &[b"}"])?;
+    Ok(())
+}
+
+/// The text of no abbreviation, if there is none, and of whether the score is excluded.
+#[tactic(auto, unfolding(crate::specs::Made::mark_text, crate::specs::Rows::mark_value))]
+fn bare_mark(part: &ScorePart) -> Option<&'static [u8]>
+    ensures { IfSome result (λ text. text.now ≡ mark_text part.now) }
+{
+    match (part.mark, part.excluded) {
+        (Some(_), _) => None,
+        (None, true) => Some(b",\"mark\":null,\"excluded\":true}"),
+        (None, false) => Some(b",\"mark\":null,\"excluded\":false}"),
+    }
+}
+
+/// Appends her abbreviation, and whether the score is excluded.
+// Most scores have no abbreviation.
+fn push_last(part: &ScorePart, out: &mut Vec<u8>) -> Result<(), AllocError>
+    ensures ok { OnOk result (out.new.items ≡ out.old.items ++ (mark_text part.now)) }
+    ensures err { OnErr result (take (vec_len out.old) out.new.items ≡ out.old.items) }
+    ensures room { vec_capacity out.old ≤ vec_capacity out.new }
+    ensures full { OnErr result (vec_capacity out.old < vec_len out.old + length (mark_text part.now)) }
+{
+    match bare_mark(part) {
+        Some(text) => push_text(text, out),
+        None => push_each_mark(part, out),
+    }
+}
+
 /// Appends her points.
-#[tactic(auto, unfolding(crate::specs::Rows::points_part))]
+#[tactic(auto, unfolding(crate::specs::Rows::points_part, crate::specs::Made::mark_text))]
 fn push_result(part: &ScorePart, out: &mut Vec<u8>) -> Result<(), AllocError>
-    ensures ok { OnOk result (out.new.items ≡ out.old.items ++ points_part part.now) }
+    ensures ok { OnOk result (out.new.items ≡ out.old.items ++ (points_part part.now)) }
     ensures err { OnErr result (take (vec_len out.old) out.new.items ≡ out.old.items) }
     ensures room { vec_capacity out.old ≤ vec_capacity out.new }
     ensures full { OnErr result (vec_capacity out.old < vec_len out.old + length (points_part part.now)) }
 {
     push_tenths(b",\"points\":", part.points, out)?;
-    push_mark(b",\"mark\":", part.mark, out)?;
-    push_flag(b",\"excluded\":", part.excluded, out)?;
-    push_pieces(out, &[b"}"])?;
+    push_last(part, out)?;
     Ok(())
 }
 

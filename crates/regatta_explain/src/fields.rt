@@ -14,6 +14,17 @@ use regatta_scores::{Abbrev, Items};
 use regatta_terms::{Code, RaceNo, Redress, Sail, Seconds, Tenths, points_word};
 use std::alloc::AllocError;
 
+/// Appends a text.
+pub(crate) fn push_text(text: &[u8], out: &mut Vec<u8>) -> Result<(), AllocError>
+    ensures ok { OnOk result (out.new.items ≡ out.old.items ++ text.now) }
+    ensures err { OnErr result (take (vec_len out.old) out.new.items ≡ out.old.items) }
+    ensures room { vec_capacity out.old ≤ vec_capacity out.new }
+    ensures full { OnErr result (vec_capacity out.old < vec_len out.old + length (text.now)) }
+{
+    out.extend_from_slice(text)?;
+    Ok(())
+}
+
 /// Appends a name and a word.
 #[tactic(auto, using(crate::proofs::TwoPieces::two_pieces))]
 pub(crate) fn push_word(name: &[u8], word: &[u8], out: &mut Vec<u8>) -> Result<(), AllocError>

@@ -23,7 +23,7 @@ mod whole;
 
 pub use averaging::averaged_races;
 pub use documents::write_document;
-pub use makers::{last_entry, place_of, ranks_after};
+pub use makers::{last_entry, place_of};
 pub use parts::{
     BoatPart, BoatRows, Compared, Document, GroupPart, HeldPart, NeighbourPart, RacePart, RaceRows,
     RankPart, RanksAfter, RulesPart, ScorePart, Separation,

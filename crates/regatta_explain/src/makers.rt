@@ -1,17 +1,16 @@
 //! Parts of a document, made from a table and a journal.
 
-ghost use Rattle.std.specs.Prelude.{◌≡◌, ◌+◌, ◌<◌, ◌≤◌, ◌^◌, length, map, nat_eq, sum_by, IfOk};
+ghost use Rattle.std.specs.Prelude.{◌≡◌, ◌+◌, ◌<◌, ◌≤◌, ◌^◌, length, nat_eq, sum_by};
 ghost use Rattle.std.specs.Prelude.{if◌then◌else◌};
 ghost use Rattle.std.specs.List.{list_any};
 ghost use Rattle.regatta_terms.specs.declared.limits.TheConstants.{MAX_RACES};
 ghost use Rattle.regatta_terms.specs.Effects.{effect};
 ghost use Rattle.regatta_explain.specs.Depends.{last_that_matters, matters as matters_by};
-ghost use Rattle.regatta_explain.specs.Explained.{boat_part, rank_part};
+ghost use Rattle.regatta_explain.specs.Explained.{boat_part};
 
-use crate::parts::{BoatPart, RankPart, RanksAfter};
-use regatta_scores::{Cell, Items, Row, Standing};
+use crate::parts::BoatPart;
+use regatta_scores::{Cell, Row};
 use regatta_terms::{Command, Entry, RaceNo};
-use std::alloc::{AllocError, Global};
 
 /// Whether the race is among these.
 fn is_among(race: RaceNo, races: &[RaceNo]) -> bool
@@ -56,40 +55,6 @@ pub fn last_entry(entries: &[Entry], races: &[RaceNo]) -> usize
         last = later(last, i, matters(entries[i].command(), races));
     }
     last
-}
-
-/// A boat's rank, by her row of a table.
-fn rank_of(row: &Row) -> RankPart
-    ensures { result ≡ rank_part row.now }
-{
-    RankPart {
-        sail: row.sail,
-        rank: row.rank,
-        tied: row.tied,
-    }
-}
-
-/// The ranks of boats, by the rows of a table.
-fn ranks_of(alloc: Global, rows: &[Row]) -> Result<Vec<RankPart>, AllocError>
-    ensures { IfOk result (λ ranks. ranks.items ≡ map rank_part rows.now) }
-{
-    rows.iter().map(|row| rank_of(row)).collect(alloc)
-}
-
-/// The ranks after a race: those of a table without later races.
-///
-/// # Errors
-///
-/// If memory runs out.
-pub fn ranks_after(alloc: Global, race: RaceNo, table: &Standing) -> Result<RanksAfter, AllocError>
-    ensures { IfOk result (λ after.
-        after ≡ record { race = race; ranks = map rank_part table.now.rows }) }
-{
-    let ranks = ranks_of(alloc, table.rows.as_slice())?;
-    Ok(RanksAfter {
-        race,
-        ranks: Items::new(ranks),
-    })
 }
 
 /// The sum of all scores of a boat, in tenths.

@@ -1,14 +1,15 @@
 //! Rows of races.
 
 ghost use Rattle.std.specs.Prelude.{◌≡◌, ◌≤◌, ◌<◌, ◌++◌, ◌+◌, take, length, vec_len};
-ghost use Rattle.std.specs.Prelude.{vec_capacity, OnOk, OnErr};
+ghost use Rattle.std.specs.Prelude.{vec_capacity, IfSome, OnOk, OnErr};
+ghost use Rattle.regatta_explain.specs.Made.{holdings_text, is_bare as is_bare_by};
 ghost use Rattle.regatta_explain.specs.Rows.{group_text, status_text, held_text};
 ghost use Rattle.regatta_explain.specs.Rows.{penalties_text, redress_text};
 ghost use Rattle.regatta_explain.specs.Rows.{race_head, race_scores_text, race_text};
 
 use crate::fields::{
     push_code, push_count, push_flag, push_number, push_race_no, push_redress, push_sails,
-    push_seconds, push_status, push_word,
+    push_seconds, push_status, push_text, push_word,
 };
 use crate::parts::{GroupPart, HeldPart, RacePart};
 use regatta_json::push_pieces;
@@ -72,8 +73,58 @@ fn push_redress_and_time(part: &HeldPart, out: &mut Vec<u8>) -> Result<(), Alloc
     Ok(())
 }
 
+/// The text of no code, penalty, redress and time, if she has none.
+#[tactic(auto, unfolding(crate::specs::Made::holdings_text))]
+fn bare_holdings(part: &HeldPart) -> Option<&'static [u8]>
+    ensures { IfSome result (λ text. text.now ≡ holdings_text part.now) }
+{
+    if is_bare(part) {
+        Some(b",\"code\":null,\"zfp\":0,\"scp\":0,\"redress\":null,\"seconds\":null}")
+    } else {
+        None
+    }
+}
+
+/// Whether a boat has no code, penalty, redress and time in a race.
+fn is_bare(part: &HeldPart) -> bool
+    ensures { result ≡ is_bare_by part.now }
+{
+    part.code.is_none()
+        && part.zfp == 0
+        && part.scp == 0
+        && part.redress.is_none()
+        && part.seconds.is_none()
+}
+
+/// Appends her code, penalties, redress and time, one after another.
+#[tactic(auto, unfolding(crate::specs::Made::holdings_text))]
+fn push_each_holding(part: &HeldPart, out: &mut Vec<u8>) -> Result<(), AllocError>
+    ensures ok { OnOk result (out.new.items ≡ out.old.items ++ (holdings_text part.now)) }
+    ensures err { OnErr result (take (vec_len out.old) out.new.items ≡ out.old.items) }
+    ensures room { vec_capacity out.old ≤ vec_capacity out.new }
+    ensures full { OnErr result (vec_capacity out.old < vec_len out.old + length (holdings_text part.now)) }
+{
+    push_penalties(part, out)?;
+    push_redress_and_time(part, out)?;
+    Ok(())
+}
+
+/// Appends her code, penalties, redress and time.
+// Most boats have none of them.
+fn push_holdings(part: &HeldPart, out: &mut Vec<u8>) -> Result<(), AllocError>
+    ensures ok { OnOk result (out.new.items ≡ out.old.items ++ (holdings_text part.now)) }
+    ensures err { OnErr result (take (vec_len out.old) out.new.items ≡ out.old.items) }
+    ensures room { vec_capacity out.old ≤ vec_capacity out.new }
+    ensures full { OnErr result (vec_capacity out.old < vec_len out.old + length (holdings_text part.now)) }
+{
+    match bare_holdings(part) {
+        Some(text) => push_text(text, out),
+        None => push_each_holding(part, out),
+    }
+}
+
 /// Appends the row of a boat in a race.
-#[tactic(auto, unfolding(crate::specs::Rows::held_text))]
+#[tactic(auto, unfolding(crate::specs::Rows::held_text, crate::specs::Made::holdings_text))]
 pub(crate) fn push_held(part: &HeldPart, out: &mut Vec<u8>) -> Result<(), AllocError>
     ensures ok { OnOk result (out.new.items ≡ out.old.items ++ held_text part.now) }
     ensures err { OnErr result (take (vec_len out.old) out.new.items ≡ out.old.items) }
@@ -81,8 +132,7 @@ pub(crate) fn push_held(part: &HeldPart, out: &mut Vec<u8>) -> Result<(), AllocE
     ensures full { OnErr result (vec_capacity out.old < vec_len out.old + length (held_text part.now)) }
 {
     push_scored(part, out)?;
-    push_penalties(part, out)?;
-    push_redress_and_time(part, out)?;
+    push_holdings(part, out)?;
     Ok(())
 }
 

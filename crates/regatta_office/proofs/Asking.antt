@@ -4,17 +4,17 @@ use Rattle.std.proofs.Common.{◌≡◌, true, Option, Some, codes, option_map, 
 use Rattle.std.specs.Box.{box_value}
 use Rattle.clap.specs.Words.{first_value, is_simple, is_simple_and_free, rows_of}
 use Rattle.clap.specs.Simple.{subcommand_rows}
-use Rattle.clap.specs.declared.builder.value_parser.ValueParser.{ValueParser}
 use Rattle.clap.specs.declared.parser.matches.ArgMatches.TheViews.{out-SubCommand}
 use Rattle.clap.specs.declared.parser.matches.Found.{Found}
 use Rattle.clap.specs.declared.parser.matches.SubCommand.{SubCommand}
 use Rattle.clap.proofs.OnLiterals.{clap_on_literals}
 use Rattle.clap.proofs.WalkLemmas.{first_value-rows}
 use Rattle.regatta_arguments.proofs.Asking.{subcommand_is}
-use Rattle.regatta_office.specs.Asked.{ReplayAsked, Series, ServingAsked}
+use Rattle.regatta_office.specs.Asked.{PreviewAsked, ReplayAsked, Series, ServingAsked}
 use Rattle.regatta_office.specs.declared.options.Asked.TheVariants.{Replay, Serve, Words, Explain}
-use Rattle.regatta_office.specs.Words.{asked_by, regatta, replay_with, series_with, serving_with}
-use Rattle.regatta_office.specs.Words.{with_rules, with_seats, with_start}
+use Rattle.regatta_office.specs.declared.options.Asked.TheVariants.{Preview}
+use Rattle.regatta_office.specs.Words.{Parsers, asked_by, preview_with, regatta, replay_with}
+use Rattle.regatta_office.specs.Words.{series_with, serving_with, with_rules, with_seats, with_start}
 
 -- what the options of `replay` ask for
 pub replay_is : {Z : Type 0} (met : Option (Box SubCommand Z)) (f : Found) (asked : ReplayAsked)
@@ -53,11 +53,21 @@ explain_is met f series named found is = ap asked_by (subcommand_is met _ _ name
     ∙ (λ i. option_map Explain (series_with (λ option. sym (first_value-rows f option) i)))
     ∙ ap (option_map Explain) (sym is)
 
--- the program is of the kind whose matches `clap` specifies
-pub simple : (forms : ValueParser) → is_simple (regatta forms) ≡ true
-unfolding clap_on_literals regatta with_rules with_start with_seats
-simple forms = refl
+-- what the options of `preview` ask for
+pub preview_is : {Z : Type 0} (met : Option (Box SubCommand Z)) (f : Found) (asked : PreviewAsked)
+    → Some (codes "preview") ≡ option_map (λ b. (out-SubCommand (box_value b)).name.now) met
+    → Some (rows_of f) ≡ option_map (λ p. p.1) (subcommand_rows met)
+    → Some asked ≡ preview_with (first_value f)
+    → asked_by (subcommand_rows met) ≡ Some (Preview asked)
+preview_is met f asked named found is = ap asked_by (subcommand_is met _ _ named found)
+    ∙ (λ i. option_map Preview (preview_with (λ option. sym (first_value-rows f option) i)))
+    ∙ ap (option_map Preview) (sym is)
 
-pub free : (forms : ValueParser) → is_simple_and_free (regatta forms) ≡ true
+-- the program is of the kind whose matches `clap` specifies
+pub simple : (parsers : Parsers) → is_simple (regatta parsers) ≡ true
 unfolding clap_on_literals regatta with_rules with_start with_seats
-free forms = refl
+simple parsers = refl
+
+pub free : (parsers : Parsers) → is_simple_and_free (regatta parsers) ≡ true
+unfolding clap_on_literals regatta with_rules with_start with_seats
+free parsers = refl

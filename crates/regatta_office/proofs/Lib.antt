@@ -4,6 +4,7 @@ pub mod Entering
 pub mod Gathering
 pub mod HeardFacts
 pub mod KeptStarting
+pub mod Previewing
 mod Printing
 pub mod Refused
 pub mod Results

@@ -5,12 +5,15 @@ use Rattle.std.specs.Io.KnownBytes.{Appends, Keeps}
 use mathlib.Core.List.{IsPrefix}
 use Rattle.regatta_streams.specs.Texts.{AppendsPrefix}
 use Rattle.regatta_terms.specs.Rules.{RulesParts, rules_of_texts}
+use Rattle.regatta_terms.specs.declared.command.Role.{Role}
 use Rattle.regatta_scores.specs.declared.table.Standing.{Standing}
 use Rattle.regatta_scores.specs.AppendixA.{IsAppendixA}
 use Rattle.regatta_scores.specs.Journal.{Journal}
 use Rattle.regatta_scores.specs.Standing.{standing}
 use Rattle.regatta_board.specs.Refusals.{limits, is_lawful}
 use Rattle.regatta_explain.specs.Explained.{explained}
+use Rattle.regatta_preview.specs.Previews.{previewed}
+use Rattle.regatta_preview.specs.Runs.{OfLines}
 use Rattle.regatta_tables.specs.EntryLists.{entries_of_text}
 use Rattle.regatta_tables.specs.JournalFiles.{journal_of}
 use Rattle.regatta_tables.specs.TableTexts.{table_text}
@@ -35,6 +38,11 @@ pub record Series : Type 0 where
 pub record ReplayAsked : Type 0 where
   pub series : Series
   pub form : Form
+
+-- what `preview` is asked for: the series, and the role of the first line
+pub record PreviewAsked : Type 0 where
+  pub series : Series
+  pub role : Role
 
 -- what `serve` is asked for: the series, the path of the file that keeps it, the path of the socket,
 -- the number of seats, and the number of clients after which the door closes (0: never)
@@ -128,6 +136,22 @@ abbrev pub AtMostExplainOf : Series → Option (List ℕ) → Option (List ℕ) 
 AtMostExplainOf series old new =
     Keeps old new ⊎ ((rules : RulesParts) × (start : Journal) × Begins series rules start
     × WritesAtMost (explained rules start) old new)
+
+-- the document of what the input's lines would do to the journal that the series starts with was
+-- written, under its rules: of all that the input gives, which isn't too long
+pub record IsPreviewOf (asked : PreviewAsked) (given old new : Option (List ℕ)) : Type 0 where
+  pub rules : RulesParts
+  pub start : Journal
+  pub begins : Begins asked.series rules start
+  pub lawful : is_lawful limits rules start ≡ true
+  pub wrote : OfLines given (λ text. Appends old new (previewed rules start asked.role text))
+
+-- nothing was written, or all of such a document, or a beginning of it
+abbrev pub AtMostPreviewOf : PreviewAsked → Option (List ℕ) → Option (List ℕ) → Option (List ℕ)
+    → Type 0
+AtMostPreviewOf asked given old new =
+    Keeps old new ⊎ ((rules : RulesParts) × (start : Journal) × Begins asked.series rules start
+    × OfLines given (λ text. WritesAtMost (previewed rules start asked.role text) old new))
 
 -- the table of a lawful journal that begins with the start was written: the one that fits Appendix A
 -- for it

@@ -2,13 +2,15 @@
 use Rattle.std.specs.Prelude.{◌≡◌, ℕ, List, Option}
 use Rattle.std.specs.Io.KnownBytes.{Appends}
 use Rattle.regatta_words.specs.WordsText.{words_text}
-use Rattle.regatta_office.specs.Asked.{AtMostExplainOf, AtMostServingOf, IsExplainOf, IsReplayOf}
-use Rattle.regatta_office.specs.Asked.{IsServingOf, WritesAtMost}
+use Rattle.regatta_office.specs.Asked.{AtMostExplainOf, AtMostPreviewOf, AtMostServingOf}
+use Rattle.regatta_office.specs.Asked.{IsExplainOf, IsPreviewOf, IsReplayOf, IsServingOf}
+use Rattle.regatta_office.specs.Asked.{WritesAtMost}
 use Rattle.regatta_office.specs.declared.options.Asked.{Asked}
 use Rattle.regatta_office.specs.declared.options.Asked.TheVariants.{Replay, Serve, Words, Explain}
+use Rattle.regatta_office.specs.declared.options.Asked.TheVariants.{Preview}
 
--- a whole run: a replay of what the input gives; or a serving, the vocabulary, or a standing
--- explained, which leave the input alone
+-- a whole run: a replay or a preview of what the input gives; or a serving, the vocabulary, or a
+-- standing explained, which leave the input alone
 abbrev pub IsRunOf : {R : Type 0} → (R → Option (List ℕ)) → Asked → R → R → Option (List ℕ)
     → Option (List ℕ) → Type 0
 IsRunOf remaining (Replay asked) before after old new =
@@ -18,11 +20,15 @@ IsRunOf remaining (Serve asked) before after old new =
 IsRunOf remaining Words before after old new = (after ≡ before) × Appends old new words_text
 IsRunOf remaining (Explain series) before after old new =
     (after ≡ before) × IsExplainOf series old new
+IsRunOf remaining (Preview asked) before after old new =
+    IsPreviewOf asked (remaining before) old new
 
 -- the most that a run has written, however it ended: a serving at most its table, `words` the
--- vocabulary, and `explain` a document; the contract of `replay` says what a replay has written
-abbrev pub AtMostRunOf : Asked → Option (List ℕ) → Option (List ℕ) → Type 0
-AtMostRunOf (Replay asked) old new = Unit {0}
-AtMostRunOf (Serve asked) old new = AtMostServingOf asked old new
-AtMostRunOf Words old new = WritesAtMost words_text old new
-AtMostRunOf (Explain series) old new = AtMostExplainOf series old new
+-- vocabulary, `explain` a document, and `preview` that of what the input gives; the contract of
+-- `replay` says what a replay has written
+abbrev pub AtMostRunOf : Asked → Option (List ℕ) → Option (List ℕ) → Option (List ℕ) → Type 0
+AtMostRunOf (Replay asked) given old new = Unit {0}
+AtMostRunOf (Serve asked) given old new = AtMostServingOf asked old new
+AtMostRunOf Words given old new = WritesAtMost words_text old new
+AtMostRunOf (Explain series) given old new = AtMostExplainOf series old new
+AtMostRunOf (Preview asked) given old new = AtMostPreviewOf asked given old new

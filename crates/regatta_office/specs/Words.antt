@@ -8,12 +8,15 @@ use Rattle.clap.specs.Words.{App, Row, Rule, Text, first_of, new_app, subcommand
 use Rattle.clap.specs.Words.{with_subcommand}
 use Rattle.clap.specs.declared.builder.value_parser.ValueParser.{ValueParser}
 use Rattle.clap.specs.declared.builder.value_parser.ValueParser.TheVariants.{Names, Unsigned}
+use Rattle.regatta_terms.specs.declared.command.Role.{Role}
+use Rattle.regatta_terms.specs.declared.command.Role.TheVariants.{Finish, Jury, Scorer}
 use Rattle.regatta_terms.specs.declared.limits.TheConstants.{MAX_SEATS}
 use Rattle.regatta_arguments.specs.Options.{bare_program, flag, is_given, option, option_or}
 use Rattle.regatta_arguments.specs.Options.{required}
-use Rattle.regatta_office.specs.Asked.{ReplayAsked, Series, ServingAsked}
+use Rattle.regatta_office.specs.Asked.{PreviewAsked, ReplayAsked, Series, ServingAsked}
 use Rattle.regatta_office.specs.declared.options.Asked.{Asked}
 use Rattle.regatta_office.specs.declared.options.Asked.TheVariants.{Replay, Serve, Words, Explain}
+use Rattle.regatta_office.specs.declared.options.Asked.TheVariants.{Preview}
 use Rattle.regatta_office.specs.declared.options.TheConstants.{MOST_SESSIONS}
 use Rattle.regatta_office.specs.declared.form.Form.{Form}
 use Rattle.regatta_office.specs.declared.form.Form.TheVariants.{Table, Csv, Journal}
@@ -29,11 +32,30 @@ number_option name value least most =
 abbrev pub form_option : ValueParser → Rule
 form_option forms = record (option_or (codes "print") (codes "table")) { parser = Some forms }
 
--- a parser that takes the words of the final part, and no others
+-- the option of the first line's role, whose words that parser takes: a scorer's by default
+abbrev pub role_option : ValueParser → Rule
+role_option roles = record (option_or (codes "role") (codes "scorer")) { parser = Some roles }
+
+-- a parser that takes these words, and no others
+abbrev pub Takes : List Text → ValueParser → Type 0
+Takes words parser = (names : Bor (List (Bor Text))) × (parser ≡ Names names)
+    × (map (λ name. name.now) names.now ≡ words)
+
+-- a parser of the words of the final part
 abbrev pub TakesForms : ValueParser → Type 0
-TakesForms forms = (names : Bor (List (Bor Text))) × (forms ≡ Names names)
-    × (map (λ name. name.now) names.now
-    ≡ codes "table" ∷ codes "csv" ∷ codes "journal" ∷ [])
+TakesForms = Takes (codes "table" ∷ codes "csv" ∷ codes "journal" ∷ [])
+
+-- a parser of the words of a role
+abbrev pub TakesRoles : ValueParser → Type 0
+TakesRoles = Takes (codes "finish" ∷ codes "jury" ∷ codes "scorer" ∷ [])
+
+-- the parsers of the words that options take
+pub record Parsers : Type 0 where
+  pub forms : ValueParser
+  pub roles : ValueParser
+
+abbrev pub TakesWords : Parsers → Type 0
+TakesWords parsers = TakesForms parsers.forms × TakesRoles parsers.roles
 
 -- the options of the series rules, with their defaults: A5.2, 20% for a Scoring Penalty, one score
 -- excluded from two races on, and places by the finishing order (RRS A3)
@@ -72,12 +94,17 @@ words = new_app (codes "words")
 abbrev pub explain : App
 explain = with_start (with_rules (new_app (codes "explain")))
 
--- the whole program: with its four subcommands
-unfoldable pub regatta : ValueParser → App
-regatta forms =
-    with_subcommand
+-- the subcommand `preview`: the options of the series, of its start and of the first line's role
+abbrev pub preview : ValueParser → App
+preview roles =
+    with_rule (with_start (with_rules (new_app (codes "preview")))) (role_option roles)
+
+-- the whole program: with its five subcommands
+unfoldable pub regatta : Parsers → App
+regatta parsers =
+    with_subcommand (with_subcommand
     (with_subcommand (with_subcommand (with_subcommand (bare_program (codes "regatta"))
-    (replay forms).top) serve.top) words.top) explain.top
+    (replay parsers.forms).top) serve.top) words.top) explain.top) (preview parsers.roles).top
 
 -- ---- what words ask for
 
@@ -113,6 +140,18 @@ replay_with value = option_map
     (λ series. record { series = series; form = form_by (value (codes "print")) })
     (series_with value)
 
+-- the role that this word names, the scorer's without one
+abbrev pub role_by : Option Text → Role
+role_by (Some word) = if bytes_eq word (codes "finish") then Finish
+    else if bytes_eq word (codes "jury") then Jury else Scorer
+role_by None = Scorer
+
+-- what `preview` is asked for, by the values of its options
+abbrev pub preview_with : (Text → Option Text) → Option PreviewAsked
+preview_with value = option_map
+    (λ series. record { series = series; role = role_by (value (codes "role")) })
+    (series_with value)
+
 -- the number that a text of decimal digits names
 abbrev pub number_by : Option Text → Option ℕ
 number_by = option_map (λ text. digits_value 10 (without_leading_plus text))
@@ -142,9 +181,10 @@ asked_by (Some (name, rows)) =
     if bytes_eq name (codes "replay") then option_map Replay (replay_with value)
     else if bytes_eq name (codes "serve") then option_map Serve (serving_with value)
     else if bytes_eq name (codes "words") then Some Words
-    else if bytes_eq name (codes "explain") then option_map Explain (series_with value) else None
+    else if bytes_eq name (codes "explain") then option_map Explain (series_with value)
+    else if bytes_eq name (codes "preview") then option_map Preview (preview_with value) else None
 asked_by None = None
 
 -- the run that the options of words ask for
-abbrev pub asked_of : ValueParser → List Text → Option Asked
-asked_of forms words = asked_by (subcommand_of (regatta forms) words)
+abbrev pub asked_of : Parsers → List Text → Option Asked
+asked_of parsers words = asked_by (subcommand_of (regatta parsers) words)

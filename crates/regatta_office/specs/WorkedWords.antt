@@ -3,18 +3,20 @@ use Rattle.std.specs.Prelude.{ℕ, [], ◌∷◌, Some, None, refl, codes, true,
 use Rattle.std.proofs.Common.{inl}
 use Rattle.clap.proofs.OnLiterals.{clap_on_literals}
 use Rattle.clap.specs.Words.{fault_of}
-use Rattle.clap.specs.declared.builder.value_parser.ValueParser.{ValueParser}
 use Rattle.clap.specs.declared.error.kind.ErrorKind.TheVariants.{MissingSubcommand, UnknownArgument}
 use Rattle.clap.specs.declared.error.kind.ErrorKind.TheVariants.{ArgumentConflict, TooManyValues}
 use Rattle.clap.specs.declared.error.kind.ErrorKind.TheVariants.{MissingRequiredArgument}
 use Rattle.clap.specs.declared.error.kind.ErrorKind.TheVariants.{ValueValidation}
 use Rattle.regatta_tables.specs.Examples.{Gives}
+use Rattle.regatta_terms.specs.declared.command.Role.TheVariants.{Finish, Jury, Scorer}
 use Rattle.regatta_office.specs.declared.form.Form.TheVariants.{Table, Csv}
 use Rattle.regatta_office.specs.Asked.{Series}
 use Rattle.regatta_arguments.specs.Asking.{AskHelp, AskVersion}
-use Rattle.regatta_office.specs.Words.{asked_of, regatta, with_rules, with_seats, with_start}
+use Rattle.regatta_office.specs.Words.{Parsers, asked_of, regatta, with_rules, with_seats}
+use Rattle.regatta_office.specs.Words.{with_start}
 use Rattle.regatta_office.specs.declared.options.Asked.{Asked}
 use Rattle.regatta_office.specs.declared.options.Asked.TheVariants.{Replay, Serve, Words, Explain}
+use Rattle.regatta_office.specs.declared.options.Asked.TheVariants.{Preview}
 
 -- the series by default: A5.2, 20% for a Scoring Penalty, one score excluded from two races on,
 -- places by the finishing order, and no start file
@@ -38,7 +40,7 @@ serving series clients sessions = Serve (record {
   sessions = sessions;
 })
 
-pub runs : (forms : ValueParser) → Gives (asked_of forms)
+pub runs : (parsers : Parsers) → Gives (asked_of parsers)
     -- a replay by default prints the table
     ((codes "replay" ∷ [], Some (Replay (record { series = default; form = Table })))
     -- each option, in both ways that its value may be given
@@ -78,19 +80,29 @@ pub runs : (forms : ValueParser) → Gives (asked_of forms)
     ∷ (
       codes "explain" ∷ codes "--journal" ∷ codes "j" ∷ codes "--scp=3" ∷ [],
       Some (Explain (record default { scp = Some (codes "3"); journal = Some (codes "j") })),
+    )
+    -- what lines would do to it: by default those of the scorer, else of another role
+    ∷ (codes "preview" ∷ [], Some (Preview (record { series = default; role = Scorer })))
+    ∷ (
+      codes "preview" ∷ codes "--role" ∷ codes "jury" ∷ codes "--journal=j" ∷ [],
+      Some (Preview (record { series = record default { journal = Some (codes "j") }; role = Jury })),
+    )
+    ∷ (
+      codes "preview" ∷ codes "--entries=e" ∷ codes "--role=finish" ∷ [],
+      Some (Preview (record { series = record default { entries = Some (codes "e") }; role = Finish })),
     ) ∷ [])
 unfolding clap_on_literals regatta with_rules with_start with_seats
-runs forms = refl
+runs parsers = refl
 
-pub help : (forms : ValueParser) → AskHelp (regatta forms) (codes "--help" ∷ [])
-    × AskHelp (regatta forms) (codes "replay" ∷ codes "--help" ∷ [])
+pub help : (parsers : Parsers) → AskHelp (regatta parsers) (codes "--help" ∷ [])
+    × AskHelp (regatta parsers) (codes "replay" ∷ codes "--help" ∷ [])
 unfolding clap_on_literals regatta with_rules with_start with_seats
-help forms = (inl refl, inl refl)
+help parsers = (inl refl, inl refl)
 
 -- the faults: no subcommand, an unknown option, the version asked of a subcommand, an option that is
 -- given twice, a flag with a value, a serving without a path, seventeen seats, and an option of
 -- another subcommand
-pub faults : (forms : ValueParser) → Gives (fault_of (regatta forms))
+pub faults : (parsers : Parsers) → Gives (fault_of (regatta parsers))
     (([], MissingSubcommand ∷ [])
     ∷ (codes "replay" ∷ codes "--speed" ∷ [], UnknownArgument ∷ [])
     ∷ (codes "replay" ∷ codes "--version" ∷ [], UnknownArgument ∷ [])
@@ -102,11 +114,13 @@ pub faults : (forms : ValueParser) → Gives (fault_of (regatta forms))
     ∷ (codes "serve" ∷ [], MissingRequiredArgument ∷ [])
     ∷ (codes "serve" ∷ codes "--socket=s" ∷ codes "--clients=17" ∷ [], ValueValidation ∷ [])
     ∷ (codes "words" ∷ codes "--scp=3" ∷ [], UnknownArgument ∷ [])
-    ∷ (codes "explain" ∷ codes "--print=csv" ∷ [], UnknownArgument ∷ []) ∷ [])
+    ∷ (codes "explain" ∷ codes "--print=csv" ∷ [], UnknownArgument ∷ [])
+    ∷ (codes "preview" ∷ codes "--print=csv" ∷ [], UnknownArgument ∷ [])
+    ∷ (codes "explain" ∷ codes "--role=jury" ∷ [], UnknownArgument ∷ []) ∷ [])
 unfolding clap_on_literals regatta with_rules with_start with_seats
-faults forms = refl
+faults parsers = refl
 
-pub version : (forms : ValueParser) → AskVersion (regatta forms) (codes "--version" ∷ [])
-    × AskVersion (regatta forms) (codes "-V" ∷ [])
+pub version : (parsers : Parsers) → AskVersion (regatta parsers) (codes "--version" ∷ [])
+    × AskVersion (regatta parsers) (codes "-V" ∷ [])
 unfolding clap_on_literals regatta with_rules with_start with_seats
-version forms = (inl refl, inl refl)
+version parsers = (inl refl, inl refl)

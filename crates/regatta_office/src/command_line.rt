@@ -1,16 +1,16 @@
 //! The program, from its command line to its status.
 ghost use Rattle.std.specs.Prelude.{◌≡◌, ◌⊎◌, ℕ, List, OnOk, map};
 ghost use Rattle.std.specs.Io.KnownBytes.{Appends};
-ghost use Rattle.clap.specs.declared.builder.value_parser.ValueParser.{ValueParser};
 ghost use Rattle.regatta_arguments.specs.Asking.{AskRun, AskText};
 ghost use Rattle.regatta_office.specs.Asked.{IsReplayOf};
 ghost use Rattle.regatta_office.specs.Runs.{AtMostRunOf, IsRunOf};
-ghost use Rattle.regatta_office.specs.Words.{TakesForms, asked_by, regatta};
+ghost use Rattle.regatta_office.specs.Words.{Parsers, TakesWords, asked_by, regatta};
 
 use crate::clients::serve_series;
 use crate::complaint::Complaint;
 use crate::explained::explain_series;
 use crate::options::{Asked, ReplayOptions, options_of};
+use crate::previewed::preview_series;
 use crate::run::replay;
 use crate::series::beginning_of;
 use crate::vocabulary::print_words;
@@ -60,13 +60,15 @@ where
     E: Sink,
     ensures done { OnOk result (IsRunOf R.remaining asked.now input.old input.new
         (W.contents output.old) (W.contents output.new)) }
-    ensures at_most { AtMostRunOf asked.now (W.contents output.old) (W.contents output.new) }
+    ensures at_most { AtMostRunOf asked.now (R.remaining input.old) (W.contents output.old)
+        (W.contents output.new) }
 {
     match asked {
         Asked::Replay(options) => replay_series(rt, options, input, output),
         Asked::Serve(options) => serve_series(rt, options, output, errors),
         Asked::Words => print_words(rt.alloc(), output),
         Asked::Explain(series) => explain_series(rt, series, output),
+        Asked::Preview(options) => preview_series(rt, options, input, output),
     }
 }
 
@@ -74,12 +76,12 @@ where
 ///
 /// `replay` answers the lines of the input and prints the final table, CSV or journal. `serve`
 /// answers the lines of clients at a new Unix socket, side by side. It prints the final table after
-/// the door has closed. `words` prints the vocabulary, and `explain` the standing of a journal with
-/// the numbers and rules that lead to it.
+/// the door has closed. `words` prints the vocabulary, `explain` the standing of a journal with the
+/// numbers and rules that lead to it, and `preview` what the lines of the input would do to it.
 ///
 /// `--absent`, `--scp`, `--exclude` and `--handicap` are the series rules (RRS A5.2 and A5.3,
 /// 44.3(c), A2.1, A3). `--journal` and `--entries` name files to start from. `--print` is the form
-/// of a replay's final part. `--socket` is the path of the socket, `--clients` the number of seats,
+/// of a replay's final part, and `--role` the role of a preview's first line. `--socket` is the path of the socket, `--clients` the number of seats,
 /// and `--sessions` the number of clients after which the door closes. `--keep` names the file that
 /// keeps the journal of a serving.
 ///
@@ -108,22 +110,23 @@ where
     // At status 0 the arguments ask for help or the version, and it is written. Or `clap` finds no
     // fault in them, and the whole run that they ask for is written, with the defaults for what they
     // leave out.
-    ensures done { result ≡ 0 → (forms : ValueParser) × TakesForms forms
-        × ((AskText (regatta forms) (map (λ word. word.now) words.now) × (input.new ≡ input.old)
+    ensures done { result ≡ 0 → (parsers : Parsers) × TakesWords parsers
+        × ((AskText (regatta parsers) (map (λ word. word.now) words.now) × (input.new ≡ input.old)
         × ((text : List ℕ) × Appends (W.contents output.old) (W.contents output.new) text))
-        ⊎ ((asked : _) × AskRun (regatta forms) asked_by (map (λ word. word.now) words.now)
+        ⊎ ((asked : _) × AskRun (regatta parsers) asked_by (map (λ word. word.now) words.now)
         asked
         × IsRunOf R.remaining asked input.old input.new (W.contents output.old)
         (W.contents output.new))) }
 
     // Whatever the status, nothing is written; or help or the version, which the arguments ask for;
     // or at most what the run that they ask for may write: of `serve`, the table.
-    ensures at_most { (output.new ≡ output.old) ⊎ ((forms : ValueParser) × TakesForms forms
-        × ((AskText (regatta forms) (map (λ word. word.now) words.now)
+    ensures at_most { (output.new ≡ output.old) ⊎ ((parsers : Parsers) × TakesWords parsers
+        × ((AskText (regatta parsers) (map (λ word. word.now) words.now)
         × ((text : List ℕ) × Appends (W.contents output.old) (W.contents output.new) text))
-        ⊎ ((asked : _) × AskRun (regatta forms) asked_by (map (λ word. word.now) words.now)
+        ⊎ ((asked : _) × AskRun (regatta parsers) asked_by (map (λ word. word.now) words.now)
         asked
-        × AtMostRunOf asked (W.contents output.old) (W.contents output.new)))) }
+        × AtMostRunOf asked (R.remaining input.old) (W.contents output.old)
+        (W.contents output.new)))) }
 {
     let alloc = rt.alloc();
     let asked = match options_of(alloc, &*words) {

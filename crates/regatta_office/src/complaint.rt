@@ -9,6 +9,7 @@ use regatta_arguments::Stop;
 use regatta_desk::OpenFault;
 use regatta_keep::{Cause, Log, OpenFault as KeepOpenFault, RecoverFault, Unopened};
 use regatta_keeper::{KeeperFault, Unkept};
+use regatta_preview::PreviewFault;
 use regatta_service::{DoorFault, ServeFault};
 use regatta_tables::{EntriesFault, JournalFault};
 use regatta_terms::RulesFault;
@@ -152,6 +153,20 @@ impl From<RunFault> for Complaint {
             RunFault::Read | RunFault::Write => Complaint::Device,
             RunFault::InputTooLong => Complaint::TooLong,
             RunFault::NoMemory => Complaint::NoMemory,
+        }
+    }
+}
+
+impl From<PreviewFault> for Complaint {
+    fn from(fault: PreviewFault) -> Complaint {
+        match fault {
+            PreviewFault::Start { at, refusal } => Complaint::Start {
+                number: refusal.number(),
+                at,
+            },
+            PreviewFault::Read | PreviewFault::Write => Complaint::Device,
+            PreviewFault::InputTooLong => Complaint::TooLong,
+            PreviewFault::NoMemory => Complaint::NoMemory,
         }
     }
 }

@@ -16,6 +16,7 @@ mod kept_file;
 mod kept_start;
 pub mod laws;
 mod options;
+mod previewed;
 mod run;
 mod scribe;
 mod series;

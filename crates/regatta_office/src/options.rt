@@ -6,12 +6,14 @@ ghost use Rattle.clap.specs.Words.{subcommand_rows_of};
 ghost use Rattle.clap.specs.declared.builder.command.Command.TheViews.{out-Command};
 ghost use Rattle.clap.specs.declared.builder.value_parser.ValueParser.{ValueParser};
 ghost use Rattle.regatta_arguments.specs.Asking.{AskRun, AskText, IsText};
-ghost use Rattle.regatta_office.specs.Words.{TakesForms, asked_by, number_by};
+ghost use Rattle.regatta_office.specs.Words.{Parsers, TakesForms, TakesRoles, TakesWords};
+ghost use Rattle.regatta_office.specs.Words.{asked_by, number_by, preview_with, role_by};
 ghost use Rattle.regatta_office.specs.Words.{form_by, form_option as form_option_of};
 ghost use Rattle.regatta_office.specs.Words.{number_option as number_option_of, replay_with};
 ghost use Rattle.regatta_office.specs.Words.{serve as serve_of, serving_with};
 ghost use Rattle.regatta_office.specs.Words.{with_seats as with_seats_of};
-ghost use Rattle.regatta_office.specs.Words.{explain as explain_of};
+ghost use Rattle.regatta_office.specs.Words.{explain as explain_of, preview as preview_by};
+ghost use Rattle.regatta_office.specs.Words.{role_option as role_option_of};
 ghost use Rattle.regatta_office.specs.Words.{regatta as regatta_of, replay as replay_of};
 ghost use Rattle.regatta_office.specs.Words.{series_by, series_with};
 ghost use Rattle.regatta_office.specs.Words.{with_rules as with_rules_of, words as words_of};
@@ -21,7 +23,7 @@ use crate::form::Form;
 use clap::builder::ValueParser;
 use clap::{Arg, ArgMatches, Command, Error};
 use regatta_arguments::{bare_program, flag, is_given, option, option_or};
-use regatta_terms::MAX_SEATS;
+use regatta_terms::{MAX_SEATS, Role};
 use std::alloc::{AllocError, Global};
 use std::marker::Model;
 
@@ -30,6 +32,9 @@ const MOST_SESSIONS: u64 = 1_000_000;
 
 /// The values of `--print`.
 static FORMS: [&str; 3] = ["table", "csv", "journal"];
+
+/// The values of `--role`.
+static ROLES: [&str; 3] = ["finish", "jury", "scorer"];
 
 /// The series that the arguments ask for: texts of its rules, whether places follow corrected
 /// times, and paths of its start files.
@@ -74,6 +79,21 @@ impl<'a> Model for ReplayOptions<'a> {
     ghost view = { λ options. record { series = options.series; form = options.form } };
 }
 
+/// What `regatta preview` is asked for: the series, and the role of the first line.
+#[derive(Drop)]
+pub(crate) struct PreviewOptions<'a> {
+    pub(crate) series: SeriesOptions<'a>,
+    pub(crate) role: Role,
+}
+
+impl<'a> Model for PreviewOptions<'a> {
+    ghost use Rattle.regatta_office.specs.Asked.{PreviewAsked};
+
+    ghost Value = { PreviewAsked };
+
+    ghost view = { λ options. record { series = options.series; role = options.role } };
+}
+
 /// What `regatta serve` is asked for: the series, the path of the file that keeps it, the path of the
 /// socket, the number of seats, and the number of clients after which the door closes (0: never).
 #[derive(Drop)]
@@ -111,6 +131,8 @@ pub(crate) enum Asked<'a> {
     Words,
     /// To print the standing explained.
     Explain(SeriesOptions<'a>),
+    /// To print what the lines of the input would do.
+    Preview(PreviewOptions<'a>),
 }
 
 /// What the help says of the program.
@@ -141,6 +163,12 @@ static EXPLAIN: &str =
     same series score, and the ranks after each race. Example: regatta explain --journal \
     saturday.txt > saturday.json";
 
+/// What the help says of `preview`.
+static PREVIEW: &str =
+    "Reads lines as `replay` does and prints what they would do, as JSON: the reply to each, and \
+    which boats would move, from the standing of the start to that after the last line. Nothing is \
+    kept. Example: regatta preview --role jury --journal saturday.txt < hearing.txt";
+
 static ABSENT: &str =
     "What boats score that did not start or finish, retired or were disqualified: \
     a52: one point more than the number of boats entered (RRS A5.2); a53: one more than the number \
@@ -170,6 +198,9 @@ static PRINT: &str =
     where the lines end with QUIT. Example: regatta replay --print csv < lines.txt \
     | sed '1,/^BYE$/d' > results.csv";
 
+static ROLE: &str = "The role in which the first line is sent; a line ROLE sets that of the lines \
+    after it. Example: --role jury";
+
 static SOCKET: &str = "The path of the socket, which mustn't be there yet; the file stays \
     behind, so remove it before the next run. Example: --socket race.sock";
 
@@ -192,6 +223,15 @@ fn form_option<'a>(alloc: Global) -> Arg<'a>
     ensures local { result.global ≡ false }
 {
     option_or(alloc, "print", "FORM", "table", PRINT).value_parser(FORMS.as_slice())
+}
+
+/// The option of the first line's role.
+fn role_option<'a>(alloc: Global) -> Arg<'a>
+    ensures rule { (roles : ValueParser) × TakesRoles roles
+        × (rule_of result ≡ role_option_of roles) }
+    ensures local { result.global ≡ false }
+{
+    option_or(alloc, "role", "ROLE", "scorer", ROLE).value_parser(ROLES.as_slice())
 }
 
 /// An option that takes a number from `least` to `most` and has a default.
@@ -290,16 +330,29 @@ fn explain<'a>(alloc: Global) -> Result<Command<'a>, AllocError>
     Ok(command)
 }
 
+/// `preview` with its options.
+fn preview<'a>(alloc: Global) -> Result<Command<'a>, AllocError>
+    ensures app { IfOk result (λ c. (roles : ValueParser) × TakesRoles roles
+        × (app_of c ≡ preview_by roles)) }
+    ensures local { IfOk result (λ c. (out-Command c).has_globals ≡ false) }
+{
+    let command = Command::new(alloc, "preview").about(PREVIEW);
+    let command = with_start(alloc, with_rules(alloc, command)?)?;
+    let command = command.arg(role_option(alloc))?;
+    Ok(command)
+}
+
 /// All that the program understands.
 fn regatta<'a>(alloc: Global) -> Result<Command<'a>, AllocError>
-    ensures { IfOk result (λ c. (forms : ValueParser) × TakesForms forms
-        × (app_of c ≡ regatta_of forms)) }
+    ensures { IfOk result (λ c. (parsers : Parsers) × TakesWords parsers
+        × (app_of c ≡ regatta_of parsers)) }
 {
     let command = bare_program(alloc, "regatta", ABOUT)?;
     let command = command.subcommand(replay(alloc)?)?;
     let command = command.subcommand(serve(alloc)?)?;
     let command = command.subcommand(words(alloc))?;
     let command = command.subcommand(explain(alloc)?)?;
+    let command = command.subcommand(preview(alloc)?)?;
     Ok(command)
 }
 
@@ -368,6 +421,35 @@ fn replay_asked<'a>(options: &ArgMatches<'a>) -> Option<ReplayOptions<'a>>
     })
 }
 
+/// The role named by the value of `--role`, the scorer's without one.
+fn role_of(word: Option<&str>) -> Role
+    ensures { result ≡ role_by (option_copied word.entry) }
+{
+    match word {
+        Some(word) => {
+            if word == "finish" {
+                return Role::Finish;
+            }
+            if word == "jury" {
+                return Role::Jury;
+            }
+            Role::Scorer
+        }
+        None => Role::Scorer,
+    }
+}
+
+/// What the options of `preview` ask for.
+fn preview_asked<'a>(options: &ArgMatches<'a>) -> Option<PreviewOptions<'a>>
+    ensures { result ≡ preview_with (first_value (found_of options.now)) }
+{
+    let series = series_of(options)?;
+    Some(PreviewOptions {
+        series,
+        role: role_of(options.get_str("role")),
+    })
+}
+
 /// The number that an option has. `clap` accepts no other text.
 fn number_of(options: &ArgMatches<'_>, name: &str) -> Option<u32>
     ensures { IfSome result (λ number.
@@ -411,9 +493,13 @@ fn run_asked<'a>(matches: &ArgMatches<'a>) -> Option<Asked<'a>>
     if let Some(_options) = matches.subcommand_matches("words") {
         return Some(Asked::Words);
     }
-    let options = matches.subcommand_matches("explain")?;
-    let series = series_of(options)?;
-    Some(Asked::Explain(series))
+    if let Some(options) = matches.subcommand_matches("explain") {
+        let series = series_of(options)?;
+        return Some(Asked::Explain(series));
+    }
+    let options = matches.subcommand_matches("preview")?;
+    let preview = preview_asked(options)?;
+    Some(Asked::Preview(preview))
 }
 
 /// What the arguments ask for. `clap` accepts none without a subcommand.
@@ -426,12 +512,12 @@ pub(crate) fn options_of<'a>(
     alloc: Global,
     words: &'a [&'a str],
 ) -> Result<Option<Asked<'a>>, Error>
-    ensures asked { IfOk result (λ asked. (forms : ValueParser) × TakesForms forms
-        × IfSome asked (AskRun (regatta_of forms) asked_by
+    ensures asked { IfOk result (λ asked. (parsers : Parsers) × TakesWords parsers
+        × IfSome asked (AskRun (regatta_of parsers) asked_by
         (map (λ word. word.now) words.entry.now))) }
     ensures text { IfErr result (λ e. IsText (kind_of e) →
-        (forms : ValueParser) × TakesForms forms
-        × AskText (regatta_of forms) (map (λ word. word.now) words.entry.now)) }
+        (parsers : Parsers) × TakesWords parsers
+        × AskText (regatta_of parsers) (map (λ word. word.now) words.entry.now)) }
 {
     let Ok(command) = regatta(alloc) else {
         return Err(Error::from(AllocError));

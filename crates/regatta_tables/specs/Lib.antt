@@ -5,6 +5,7 @@ pub mod JournalFiles
 pub mod JournalTexts
 pub mod Laws
 pub mod Lines
+pub mod ListedRows
 pub mod ReplyTexts
 pub mod SheetTexts
 pub mod ShownText

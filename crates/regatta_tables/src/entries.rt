@@ -120,7 +120,7 @@ pub fn read_entries(alloc: Global, text: &[u8]) -> Result<Sails, EntriesFault>
 }
 
 /// The number of the first column with a heading of sails, counted from 0.
-fn sail_column(alloc: Global, header: &ByteRecord) -> Result<Option<usize>, AllocError>
+pub(crate) fn sail_column(alloc: Global, header: &ByteRecord) -> Result<Option<usize>, AllocError>
     ensures { IfOk result (λ column.
         column ≡ position is_sail_heading (fields_of header.now)) }
 {
@@ -218,7 +218,7 @@ fn add_named(
 }
 
 /// Whether all fields are empty or spaces.
-fn is_blank(fields: &[&[u8]]) -> bool
+pub(crate) fn is_blank(fields: &[&[u8]]) -> bool
     ensures { result ≡ is_blank (map (λ field. field.now) fields.now) }
 {
     for field in fields {

@@ -5,6 +5,7 @@ mod cells;
 mod entries;
 mod journals;
 pub mod laws;
+mod listed;
 mod page;
 mod pieces;
 mod records;
@@ -16,7 +17,8 @@ mod shown;
 mod tables;
 
 pub use entries::{EntriesFault, Sails, read_entries};
-pub use journals::{Journal, JournalFault, read_journal, write_entries, write_journal};
+pub use journals::{Journal, JournalFault, first_line, read_journal, write_entries, write_journal};
+pub use listed::{Listed, listed_rows};
 pub use records::{fields_in, records_of, without_spaces};
 pub use replies::{REPLY_ROOM, write_reply};
 pub use results::write_csv;

@@ -12,4 +12,5 @@ mod senders;
 mod sentences;
 mod words;
 
+pub use sentences::{name_of_fault, name_of_refusal};
 pub use words::write_words;

@@ -44,7 +44,7 @@ pub(crate) const FAULTS: [LineFault; 10] = [
 pub(crate) const ROLES: [Role; 3] = [Role::Finish, Role::Jury, Role::Scorer];
 
 /// The name of a refusal.
-pub(crate) fn name_of_refusal(refusal: Refusal) -> &'static [u8]
+pub fn name_of_refusal(refusal: Refusal) -> &'static [u8]
     ensures { result.now ≡ refusal_name refusal }
 {
     match refusal {
@@ -100,7 +100,7 @@ pub(crate) fn sentence_of_refusal(refusal: Refusal) -> &'static [u8]
 }
 
 /// The name of a fault.
-pub(crate) fn name_of_fault(fault: LineFault) -> &'static [u8]
+pub fn name_of_fault(fault: LineFault) -> &'static [u8]
     ensures { result.now ≡ fault_name fault }
 {
     match fault {

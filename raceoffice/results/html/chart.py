@@ -1,6 +1,6 @@
 """How the standing developed: the rank after each race, as a small picture and as a table.
 
-The ranks are the program's own (`replay.developed`). The picture has the first boats alone; each line
+The ranks are the program's own (`regatta explain`). The picture has the first boats alone; each line
 has a colour, a dash, a mark and a label of its own. The table has all boats.
 """
 from __future__ import annotations
@@ -26,7 +26,7 @@ DASHES = ["", "7 3", "2 3", "11 3 2 3", "", "7 3", "2 3", "11 3 2 3"]
 def ranks(view: Snapshot) -> dict[str, list[tuple[int, bool]]]:
     """Each boat's rank after each race, and whether she shares it."""
     found: dict[str, list[tuple[int, bool]]] = {row.sail: [] for row in view.standing.rows}
-    for after in view.course:
+    for after in view.explanation.course:
         for sail, place in after.items():
             found[sail].append(place)
     return found
@@ -127,7 +127,7 @@ def table(view: Snapshot) -> Markup:
 
 def chart(view: Snapshot) -> Markup:
     """The chart and its table; nothing before the second race."""
-    if len(view.course) < 2 or not view.standing.rows:
+    if len(view.explanation.course) < 2 or not view.standing.rows:
         return NOTHING
     return tag("section", tag("h2", "How the standing developed"), "\n",
                tag("p", "Rank after each race, by the scores as they are now: later protests and late "

@@ -16,13 +16,16 @@ def version(views: Sequence[Snapshot]) -> str:
 
 
 def leaders(view: Snapshot) -> Markup:
-    """Who is first: up to three boats that share the rank, and how many others do."""
+    """Who is first. Of boats that share the rank there are sails alone, up to three, and how many others do. A helm has a
+    line of its own: no name can be taken for another boat."""
     first = [row for row in view.standing.rows if row.rank == 1] if view.standing.races else []
     boats = [view.boat(row.sail) for row in first[:3]]
     which = "Leads" if view.settings.state == "provisional" else "First"
-    names = [together(tag("b", boat.sail), f", {boat.helm}" if boat.helm else "") for boat in boats]
-    names += [together(len(first) - 3, " more")] if len(first) > 3 else []
-    return tag("p", which, ": ", separated(names, " and ")) if names else NOTHING
+    sails = [tag("b", boat.sail) for boat in boats] + ([together(len(first) - 3, " more")] if len(first) > 3 else [])
+    if not sails:
+        return NOTHING
+    helm = tag("p", "Helm: ", boats[0].helm, class_="sub") if len(first) == 1 and boats[0].helm else NOTHING
+    return together(tag("p", which, ": ", separated(sails, " and ")), helm)
 
 
 def entry(view: Snapshot, above: Sequence[str]) -> Markup:

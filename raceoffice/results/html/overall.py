@@ -5,13 +5,13 @@ from collections.abc import Sequence
 
 from raceoffice.decisions.points import words_of
 from raceoffice.program.codes import AS_DNF
-from raceoffice.program.standing import Row, Score, tie_break
+from raceoffice.program.standing import Row, Score
 from raceoffice.results.html.markup import NOTHING, Markup, separated, tag, together
-from raceoffice.results.html.page import (COMMA, bar, code, finding, foot, head, key, name_heads, points, rem, sail_head,
-                                          who, whole)
+from raceoffice.results.html.page import (COMMA, bar, code, finding, foot, head, key, name_heads, named, points, rem,
+                                          sail_head, who, whole)
 from raceoffice.results.html.sealing import block
 from raceoffice.results.snapshot import Snapshot
-from raceoffice.wording import TIMES, joined, one_decimal, ordinal, spans
+from raceoffice.wording import TIMES, joined, ordinal, spans
 
 # On paper the races after these are in a second table.
 MOST_COLUMNS = 24
@@ -47,10 +47,10 @@ def tie_words(view: Snapshot, group: Sequence[Row]) -> str:
 def broken(view: Snapshot, better: Row, worse: Row) -> str:
     """By which rule one boat is ranked ahead of another, and with which scores."""
     one, other = view.boat(better.sail).sail, view.boat(worse.sail).sail
-    found = tie_break(view.standing.races, better, worse)
+    found = view.explanation.separations.get((better.sail, worse.sail))
     if found is None:
         return f"{one} and {other} have identical scores and share the rank."
-    scores = f"{one_decimal(found.better)} to {one_decimal(found.worse)}"
+    scores = f"{found.better} to {found.worse}"
     if found.rule == "A8.1":
         which = "best score" if found.at == 1 else f"{ordinal(found.at)}-best score"
         return f"{one} beats {other} on A8.1: {which} {scores}."
@@ -90,9 +90,9 @@ def line(view: Snapshot, row: Row, mark: str) -> Markup:
         tie = together(" ", tag("a", mark, href=f"#{view.ids}tie-{mark}", aria_label=f"tie, note {mark}"))
     total = tag("td", points(view.totals[row.sail]), class_="total") if view.totals else NOTHING
     net = points(row.net) if view.standing.races else together("–")
-    named = boat.helm or boat.name
-    helm = together(COMMA, tag("span", named, class_="helm")) if named else NOTHING
-    return tag("tr", rank(view, row), tag("th", boat.sail, helm, scope="row", class_="sail"),
+    name = named(boat.helm or boat.name)
+    helm = tag("span", name, class_="helm") if name else NOTHING
+    return tag("tr", rank(view, row), tag("th", boat.sail, COMMA, helm, scope="row", class_="sail"),
                tag("td", who(boat), class_="who"), tag("td", net, tie, class_="net"),
                *map(cell, row.scores), total, id=f"{view.ids}{row.sail}",
                data_find=finding(view, row.sail))
@@ -205,12 +205,11 @@ def repeated(kinds: list[str]) -> str:
     return joined(each)
 
 
-def decisions(view: Snapshot) -> Markup:
-    """What the table can't show: what was decided, how redress was given, and penalties that were
+def decisions(view: Snapshot, numbers: Sequence[int]) -> Markup:
+    """What a table of these races can't show: what was decided, how redress was given, and penalties that were
     repeated."""
-    races = [view.race(number) for number in view.standing.races]
-    ruled = {verdict.ruling.key: words_of(verdict) for verdict in view.decided.verdicts
-             if verdict.ruling.race in view.standing.races}
+    races = [view.race(number) for number in numbers]
+    ruled = {verdict.ruling.key: words_of(verdict) for verdict in view.decided.verdicts if verdict.ruling.race in numbers}
     says = [(number, sail, text) for (number, sail), text in ruled.items()]
     says += [(race.number, sail, f"redress, {redress_words(how)}")
              for race in races for sail, how in race.redress.items()
@@ -226,7 +225,7 @@ def decisions(view: Snapshot) -> Markup:
 
 def notes(view: Snapshot) -> Markup:
     """What is below the table."""
-    return tag("div", ties(view), overall_key(view), rules(view), decisions(view), class_="notes")
+    return tag("div", ties(view), overall_key(view), rules(view), decisions(view, view.standing.races), class_="notes")
 
 
 # The head, the style, and the page

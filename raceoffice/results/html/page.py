@@ -5,6 +5,7 @@ from __future__ import annotations
 import re
 from collections.abc import Sequence
 
+from raceoffice.characters import is_right_to_left
 from raceoffice.files import text_if_any
 from raceoffice.program.codes import CODES
 from raceoffice.results.html import assets
@@ -43,6 +44,8 @@ def styles(text: str) -> str:
 # No sail has a comma in it, so that a boat isn't taken for one whose sail goes on as her helm's name begins. It is heard,
 # and not seen.
 COMMA = tag("i", ", ", class_="hidden")
+# It isn't seen: what comes next goes on from left to right.
+LEFT_TO_RIGHT = "\u200e"
 
 
 def rem(pixels: int) -> str:
@@ -65,9 +68,16 @@ def sail_head(boat: Boat) -> Markup:
     return tag("th", boat.sail, COMMA, scope="row", class_="sail")
 
 
+def named(text: str) -> str:
+    """A name in a row. One from right to left ends with a mark of this package: a browser of texts has a row on one line, and
+    digits have no direction of their own, so points behind such a name would be shown in another order."""
+    return f"{text}{LEFT_TO_RIGHT}" if is_right_to_left(text) else text
+
+
 def who(boat: Boat) -> Markup:
     first, *rest = [text for text in (boat.helm, boat.name, boat.club) if text] or [""]
-    return together(tag("b", first), " ", tag("span", " · ".join(rest))) if rest else tag("b", first)
+    mark = LEFT_TO_RIGHT if is_right_to_left(first + "".join(rest)) else ""
+    return together(tag("b", first), " ", tag("span", " · ".join(rest), mark)) if rest else tag("b", first, mark)
 
 
 def finding(view: Snapshot, sail: str) -> str:
@@ -209,8 +219,8 @@ def framed(title: str, live: str, every: int, version: str, now: str, body: Mark
     """A page. `now` is where its script asks whether it is out of date; none, if it never is. `table` is
     the name of its first table."""
     refresh, beware = without_scripts(now)
-    alarm = tag("p", tag("b", "Out of date."), " ", tag("span"), " ", tag("a", "Reload", href="?"),
-                class_="alarm", id="alarm", role="alert", hidden=True)
+    # Its words are the script's: a browser of texts shows what is hidden, too.
+    alarm = tag("p", class_="alarm", id="alarm", role="alert", hidden=True)
     head = separated([
         "", tag("meta", charset="utf-8"),
         tag("meta", name="viewport", content="width=device-width, initial-scale=1"),

@@ -3,36 +3,30 @@ from __future__ import annotations
 
 from collections.abc import Mapping
 
-from raceoffice.decisions.points import words_of
 from raceoffice.program.codes import CODES
 from raceoffice.program.journal import Race
 from raceoffice.results.html.markup import NOTHING, Markup, separated, tag, together
+from raceoffice.results.html.overall import decisions
 from raceoffice.results.html.page import bar, code, finding, foot, head, key, name_heads, points, sail_head, who, whole
 from raceoffice.results.html.sealing import block
 from raceoffice.results.snapshot import Snapshot
 from raceoffice.wording import duration
 
 
-def remarks(view: Snapshot, race: Race, sail: str) -> Markup:
-    """What a boat holds beside her place, below her name."""
+def beside(view: Snapshot, race: Race, sail: str, first: str = "") -> Markup:
+    """What a boat holds beside her place, or beside the code that comes first. It is before her sail, where no name can be
+    taken for it: names come after the comma of the sail."""
     kinds = race.penalties.get(sail, [])
-    says = [together(code(kind), f" × {kinds.count(kind)}" if kinds.count(kind) > 1 else "")
-            for kind in dict.fromkeys(kinds)]
-    ruled = view.decided.verdict(race.number, sail)
-    if ruled:
-        label = ruled.ruling.label
-        says.append(together(code(label) if label else NOTHING, " " if label else "", words_of(ruled)))
-    elif sail in race.redress:
-        how = {"ALL": "average of all other races", "PRIOR": "average of the races before"}.get(
-            race.redress[sail], "points given by the jury")
-        says.append(together(code("RDG"), f" {how}"))
-    return tag("em", separated(says, ", ")) if says else NOTHING
+    parts = [together(code(kind), f" × {kinds.count(kind)}" if kinds.count(kind) > 1 else "")
+             for kind in dict.fromkeys(kinds)]
+    label = view.decided.labels.get((race.number, sail), "RDG" if sail in race.redress else "")
+    parts += [code(label)] if label not in ("", first) else []
+    return together(*(together(" ", tag("em", part)) for part in parts))
 
 
 def row(view: Snapshot, race: Race, sail: str, first: Markup, with_time: bool) -> Markup:
     scores, boat = view.scores(race.number), view.boat(sail)
-    cells = [tag("td", first, class_="place"), sail_head(boat),
-             tag("td", who(boat), " ", remarks(view, race, sail), class_="who")]
+    cells = [tag("td", first, class_="place"), sail_head(boat), tag("td", who(boat), class_="who")]
     below = NOTHING
     if with_time:
         time = duration(race.times[sail])
@@ -77,13 +71,14 @@ def unrecorded(view: Snapshot, race: Race) -> list[str]:
 def tables(view: Snapshot, race: Race) -> Markup:
     """The boats of a race: those with a place, with a code, and without either."""
     counts, labels = race.number in view.standing.races, view.decided.labels
-    places = {sail: together(place, "=" if shared else "")
+    places = {sail: together(place, "=" if shared else "", beside(view, race, sail))
               for sail, (place, shared) in race.places().items()}
-    coded = {sail: code(labels.get((race.number, sail), race.codes[sail]))
+    words = {sail: labels.get((race.number, sail), race.codes[sail])
              for sail in sorted(race.codes, key=lambda sail: (list(CODES).index(race.codes[sail]), sail))}
-    coded |= {sail: code(labels.get((race.number, sail), "RDG"))
+    words |= {sail: labels.get((race.number, sail), "RDG")
               for sail in race.missing(view.series.boats) if sail in race.redress}
-    missing = {sail: code("DNC") if counts else together("–") for sail in unrecorded(view, race)}
+    coded = {sail: together(code(word), beside(view, race, sail, word)) for sail, word in words.items()}
+    missing = {sail: together(code("DNC") if counts else "–", beside(view, race, sail)) for sail in unrecorded(view, race)}
     return together(
         table(view, race, "table", "Finished", "Place", places, view.settings.handicap),
         table(view, race, "coded", "With a code", "Code", coded),
@@ -121,7 +116,7 @@ def one_race(view: Snapshot, number: int, is_among: bool = False) -> str:
     above = " · ".join(text for text in (shown.club, shown.title) if text)
     body = tag("main", separated([
         "", head(view, is_among, above, title, facts(view, race)), bar(view, number, ""),
-        tables(view, race), tag("div", key(words_used(view, race)), class_="notes"), foot(view, ""),
+        tables(view, race), tag("div", key(words_used(view, race)), decisions(view, [number]), class_="notes"), foot(view, ""),
         block("race", [view], race=number, among=is_among), ""], "\n"), class_="race")
     style = "@media print { @page { size: A4 portrait; } }\n"
     return whole(view, f"Race {number} · {view.label} · {shown.state}", body, style, "")

@@ -21,7 +21,7 @@ export function startGridAgain() {
   holding = [];
 }
 
-// Lets boats that have finished leave once nobody taps any more.
+// Lets boats that have finished leave, and those that came back go to their places, once nobody taps any more.
 export function settleSoon() {
   clearTimeout(settling);
   settling = setTimeout(() => { settling = 0; holding = []; drawGrid(); }, SETTLE);
@@ -63,7 +63,7 @@ function boatsInPlace(all, open) {
   holding.push(...open.map(keyOf).filter(key => !holding.includes(key)));
   const byKey = new Map(all.map(boat => [keyOf(boat), boat]));
   const found = holding.map(key => byKey.get(key)).filter(Boolean);
-  if (!settling && found.some(boat => boat.isDone || boat.code)) settleSoon();
+  if (!settling && found.map(keyOf).join() !== open.map(keyOf).join()) settleSoon();
   return found;
 }
 
@@ -108,11 +108,19 @@ function noBoats(all) {
   return text(sailing().length ? "finish.waitingForBoats" : "finish.chooseRaceAbove");
 }
 
+// Four letters of a class, from where it differs if others begin alike
+function shortOf(group) {
+  const alike = page.classes.filter(one => one.group.startsWith(group.slice(0, 4)));
+  let at = 0;
+  while (alike.length > 1 && at < group.length - 4 && alike.every(one => one.group[at] === group[at])) at++;
+  return group.slice(at, at + 4);
+}
+
 function boatButton(boat) {
   const {letters, rest} = parts(boat.sail), state = boat.race.unsent[boat.sail], isRounding = page.mode.kind === "round";
   const isMarked = isRounding ? boat.rounded >= 0 : boat.isDone && page.mode.kind === "finish";
   const isLate = isMarked && (state === "unsent" || state === "asked"), end = lowerLine(boat, isMarked, isRounding);
-  const group = page.classes.length > 1 ? boat.group.slice(0, 4) : "";
+  const group = page.classes.length > 1 ? shortOf(boat.group) : "";
   const look = [`class${boat.place}`, isMarked && "done", isLate && "unsent", boat.code && "coded",
     boat.rounded >= 0 && !boat.isDone && "next"].filter(Boolean).join(" ");
   return element("button", {type: "button", class: `boat ${look}`, "data-key": keyOf(boat), "data-sail": boat.sail, "data-class": boat.class,

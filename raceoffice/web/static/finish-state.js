@@ -35,7 +35,10 @@ export const page = {
 export const queue = new Queue(item => {
   forgetIfShown(item);
   // What is refused, or dropped, says of no moment whose it was.
-  if (queue.find(item.id) ? item.state === "refused" : item.state !== "gone") undoMoment(item);
+  const isThere = queue.find(item.id);
+  if (isThere ? item.state === "refused" : item.state !== "gone") undoMoment(item);
+  // Nothing came of what is dropped, unless it waited for an answer.
+  if (!isThere && item.state !== "gone" && !(item.isSent && isWaiting(item))) forgetUndoable(item);
   page.redraw();
 });
 
@@ -191,6 +194,11 @@ export function addTap(name, line, more = {}) {
 
 function noteUndoable(tap) {
   page.undoable = [...page.undoable, tap].slice(-UNDOABLE);
+  keep("undoable", page.undoable);
+}
+
+export function forgetUndoable({id}) {
+  page.undoable = page.undoable.filter(one => one.id !== id);
   keep("undoable", page.undoable);
 }
 

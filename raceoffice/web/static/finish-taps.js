@@ -5,7 +5,7 @@ import {text} from "./texts.js";
 import {choose, dialogOf, say} from "./dialogs.js";
 import {CODES, PENALTIES} from "./sails.js";
 import {heldBy, isIn, lastBoat} from "./race-view.js";
-import {addMoment, addTap, endMoment, isTimed, keep, lastTap, named, page, queue, raceNow, sailing, setMode, undoMoment} from "./finish-state.js";
+import {addMoment, addTap, endMoment, forgetUndoable, isTimed, keep, lastTap, named, page, queue, raceNow, sailing, setMode, undoMoment} from "./finish-state.js";
 
 // Milliseconds: how long a finger may bounce on one boat
 const BOUNCE = 400;
@@ -81,8 +81,7 @@ export function undo() {
   const tap = lastTap();
   if (!tap) return;
   const item = queue.find(tap.id), isOpen = queue.unsent.includes(item);
-  page.undoable = page.undoable.filter(one => one !== tap);
-  keep("undoable", page.undoable);
+  forgetUndoable(tap);
   buzz(60);
   if (undoMoment(tap)) {
     setMode({kind: "finish"});

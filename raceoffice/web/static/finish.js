@@ -31,6 +31,8 @@ function usualRace(state) {
 
 function takeState(name, state) {
   const held = page.states[name];
+  // While a class waits to be opened, the phone goes by what it has of it.
+  if (state.trouble && !state.boats.length && held?.series === state.series) state = {...held, trouble: state.trouble, version: state.version};
   // Another series under this name has races of its own.
   if (held?.series && held.series !== state.series) forgetRaces(name);
   page.states[name] = state;

@@ -12,6 +12,7 @@ const VARIANTS = {
   "score-penalised": values => values.a53 ? ".a53" : "",
   "redress-unplaced": values => values.a53 ? ".a53" : "",
   "correction": values => values.declared ? `.${values.declared}` : "",
+  "declared": values => values.declared === "final" ? "" : ".amended",
   "announce": values => values.state === "final" ? "" : `.${values.state}`,
   "take-over": values => values.since ? ".since" : "",
   "new-rules": values => values.isReopened ? ".reopen" : "",

@@ -17,6 +17,8 @@ const RACES = 40;
 const cancel = () => ({value: "", label: text("common.cancel")});
 
 const isEntered = (name, sail) => state(name).boats.some(boat => boat[0] === sail);
+// A sheet's rows of boats that aren't entered stay as they are.
+const entered = (name, rows) => rows.filter(row => isEntered(name, row.sail));
 
 // The finishers of a race as they came, also those that only the sheet has
 export function finishersOf(name, race) {
@@ -93,14 +95,14 @@ async function sheetToOther(name, number, race, {to, sails, coded, isAll}, codes
   if (!whose) return;
   // A start that all have is that of the whole race.
   const usual = whose === "there" ? there[0] : there.length || starts.length > 1 ? "" : starts[0] ?? "";
-  const rows = other.rows.map(row => {
+  const rows = entered(name, other.rows).map(row => {
     const own = moved.get(row.sail) ?? row, start = (whose === "own" ? own.start : row.start) || row.start || usual;
     return [row.sail, {...Object.fromEntries(other.columns.map(key => [key, own[key]])), start, elapsed: own.finish ? "" : own.elapsed}];
   });
   const given = {race: to, rows: Object.fromEntries(rows), tag: other.tag, overnight: other.overnight || from.overnight};
   const several = linesOfOtherSheet(race, number, to, sails, moved, codes), agreed = await agreedOfLines(name, several);
   if (!agreed || !isTaken(await ask(addressOf("sheet", name), given))) return;
-  if (await lines(name, several, newId(), agreed) && isAll) clearStart(name, number);
+  if (await lines(name, several, newId(), agreed) && isAll) clearCourse(name, number);
 }
 
 // Whether one of the boats is in the other sheet already, which is said
@@ -116,9 +118,10 @@ const whoseStart = (name, to, there, starts) => choose(withClass(text("scorer.wh
   {value: "there", label: text("scorer.startThere", {number: to, start: there.join(" ")})},
   {value: "own", label: text("scorer.startOwn", {start: starts.join(" ")})}, cancel()], "stack");
 
-// A race of which nothing is left has no start any more: that was the other race's.
-async function clearStart(name, number) {
-  const {status, rows, tag, overnight} = await sheetOf(name, number);
+// A race of which nothing is left has no start, laps and distances any more: those were the other race's.
+async function clearCourse(name, number) {
+  const {status, rows, columns, tag, overnight} = await sheetOf(name, number);
   if (status !== 200 || rows.some(row => row.finish || row.elapsed || row.code)) return;
-  await ask(addressOf("sheet", name), {race: number, tag, overnight, rows: Object.fromEntries(rows.map(row => [row.sail, {start: ""}]))});
+  const none = Object.fromEntries(columns.filter(key => key !== "elapsed").map(key => [key, ""]));
+  await ask(addressOf("sheet", name), {race: number, tag, overnight, rows: Object.fromEntries(entered(name, rows).map(row => [row.sail, none]))});
 }

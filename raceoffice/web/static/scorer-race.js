@@ -6,7 +6,7 @@ import {kindOf, spaced} from "./sails.js";
 import {boatOf, called, heldIn, missingFrom, raceNumbered, state} from "./desk.js";
 import {stalePart} from "./jury-kept.js";
 import {remarkSentences} from "./remark-words.js";
-import {finishers, waitingIn} from "./race-view.js";
+import {duration, finishers, waitingIn} from "./race-view.js";
 import {addFinisher, correct, line, resolve} from "./scorer-corrections.js";
 import {finishersOf, toOtherRace} from "./scorer-other-race.js";
 import {unfinishedPart} from "./scorer-unfinished.js";
@@ -39,9 +39,10 @@ function boatRow(name, race, number, sail, place, placeWords) {
     element("td", {class: "time", title: race.by[sail]}, timeIn(name, race, sail)));
 }
 
-// Her finish as the sheet of times has it, or the time of her tap
+// Her finish or elapsed time as the sheet of times has it, or the time of her tap
 function timeIn(name, race, sail) {
-  return state(name).handicap ? race.sheet?.rows[sail]?.finish : timeOfDay(race.at[sail], state(name).zone);
+  const {finish, elapsed} = race.sheet?.rows[sail] ?? {};
+  return state(name).handicap ? finish || elapsed && duration(elapsed) : timeOfDay(race.at[sail], state(name).zone);
 }
 
 function unreadRow(name, number, {gap, place}) {

@@ -139,13 +139,15 @@ class Sheet {
     this.again(this);
   }
 
-  // Takes over the sheet as it was saved. What was typed since stays.
+  // Takes over the sheet as it was saved, with what an empty field has come to. What was typed since stays.
   takeSaved(saved, rows) {
+    const was = new Map(this.found.rows.map(row => [row.sail, {...row, ...rows[row.sail]}]));
     this.found = saved;
     for (const {sail, ...row} of saved.rows) {
       const fields = this.fields.get(sail);
-      if (fields) fields.tick.checked = false;
-      for (const [key, value] of Object.entries(rows[sail] ?? {})) if (fields[key].value.trim() === value) fields[key].value = row[key];
+      if (!fields) continue;
+      fields.tick.checked = false;
+      for (const key of this.columns) if (fields[key].value.trim() === was.get(sail)?.[key]) fields[key].value = row[key];
     }
     for (const key of this.forAll) this.all[key].value = "";
   }

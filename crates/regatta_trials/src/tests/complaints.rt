@@ -3,6 +3,7 @@
 use super::*;
 use regatta_arguments::Stop;
 use regatta_office::{Complaint, DoorFault, OpenFault, ServeFault};
+use regatta_preview::PreviewFault;
 use regatta_streams::ReadFault;
 use regatta_tables::{EntriesFault, JournalFault};
 use regatta_terms::{LineFault, Refusal, RulesFault};
@@ -59,6 +60,20 @@ static RUNS: [(RunFault, Complaint); 5] = [
     (RunFault::Write, Complaint::Device),
     (RunFault::InputTooLong, Complaint::TooLong),
     (RunFault::NoMemory, Complaint::NoMemory),
+];
+
+static PREVIEWS: [(PreviewFault, Complaint); 5] = [
+    (
+        PreviewFault::Start {
+            at: 3,
+            refusal: Refusal::AlreadyEntered,
+        },
+        Complaint::Start { number: 6, at: 3 },
+    ),
+    (PreviewFault::Read, Complaint::Device),
+    (PreviewFault::Write, Complaint::Device),
+    (PreviewFault::InputTooLong, Complaint::TooLong),
+    (PreviewFault::NoMemory, Complaint::NoMemory),
 ];
 
 static STOPS: [(Stop, Complaint); 3] = [
@@ -149,6 +164,7 @@ fn are_complaints<F: Copy + Into<C>, C: PartialEq + Drop>(cases: &[(F, C)]) -> b
 #[test]
 fn faults_have_their_complaints(rt: HostRuntime) {
     assert!(rt; are_complaints(&RUNS));
+    assert!(rt; are_complaints(&PREVIEWS));
     assert!(rt; are_complaints(&STOPS));
     assert!(rt; are_complaints(&READS));
     assert!(rt; are_complaints(&KINDS));

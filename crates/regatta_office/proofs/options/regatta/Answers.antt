@@ -1,23 +1,28 @@
 use Rattle.std.proofs.Common.{◌∙◌}
 use Rattle.clap.specs.Words.{with_subcommand}
-use Rattle.regatta_office.specs.Words.{explain, regatta, serve, words}
+use Rattle.regatta_office.specs.Words.{explain, preview, regatta, serve, words}
 use Rattle.regatta_office.proofs.options.regatta.Goals as goal
 
 pub returns : goal.returns
 unfolding regatta
 returns c =
-    let replay = c.in_ok-replay.ensures.app in (
-      replay.0,
-      replay.1,
-      c.in_ok-command-5.ensures.shape c.in_ok-explain.ensures.local
-          ∙ (λ i. with_subcommand (c.in_ok-command-4.ensures.shape c.words.ensures.local i)
-          (c.in_ok-explain.ensures.app i).top)
+    let forms = c.in_ok-replay.ensures.app in
+    let roles = c.in_ok-preview.ensures.app in (
+      record { forms = forms.0; roles = roles.0 },
+      (forms.1, roles.1),
+      c.in_ok-command-6.ensures.shape c.in_ok-preview.ensures.local
+          ∙ (λ i. with_subcommand (c.in_ok-command-5.ensures.shape c.in_ok-explain.ensures.local i)
+          (roles.2 i).top)
           ∙ (λ i. with_subcommand (with_subcommand
-          (c.in_ok-command-3.ensures.shape c.in_ok-serve.ensures.local i)
-          (c.words.ensures.app i).top) explain.top)
+          (c.in_ok-command-4.ensures.shape c.words.ensures.local i)
+          (c.in_ok-explain.ensures.app i).top) (preview roles.0).top)
           ∙ (λ i. with_subcommand (with_subcommand (with_subcommand
-          (c.in_ok-command-2.ensures.shape c.in_ok-replay.ensures.local i)
-          (c.in_ok-serve.ensures.app i).top) words.top) explain.top)
+          (c.in_ok-command-3.ensures.shape c.in_ok-serve.ensures.local i)
+          (c.words.ensures.app i).top) explain.top) (preview roles.0).top)
           ∙ (λ i. with_subcommand (with_subcommand (with_subcommand (with_subcommand
-          (c.in_ok-command.ensures i) (replay.2 i).top) serve.top) words.top) explain.top),
+          (c.in_ok-command-2.ensures.shape c.in_ok-replay.ensures.local i)
+          (c.in_ok-serve.ensures.app i).top) words.top) explain.top) (preview roles.0).top)
+          ∙ (λ i. with_subcommand (with_subcommand (with_subcommand (with_subcommand (with_subcommand
+          (c.in_ok-command.ensures i) (forms.2 i).top) serve.top) words.top) explain.top)
+          (preview roles.0).top),
     )

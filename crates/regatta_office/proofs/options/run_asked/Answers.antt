@@ -1,7 +1,7 @@
 use Rattle.std.proofs.Common.{refl, sym, ◌∙◌}
 use Rattle.clap.specs.Words.{found_of}
 use Rattle.clap.specs.declared.parser.matches.ArgMatches.TheViews.{out-ArgMatches}
-use Rattle.regatta_office.proofs.Asking.{explain_is, replay_is, serving_is, words_is}
+use Rattle.regatta_office.proofs.Asking.{explain_is, preview_is, replay_is, serving_is, words_is}
 use Rattle.regatta_office.proofs.options.run_asked.Goals as goal
 
 -- a replay
@@ -28,8 +28,16 @@ returns-in-Some-subcommand_matches-2 c =
     (sym c.in-Some-subcommand_matches-2.ensures.rows)
 
 -- a standing explained
+pub returns-in-Some-subcommand_matches-3 : goal.returns-in-Some-subcommand_matches-3
+returns-in-Some-subcommand_matches-3 c =
+    explain_is (out-ArgMatches c.args.matches.now).subcommand
+    (found_of c.in-Some-subcommand_matches-3.options.now) c.in_ok-series.series
+    (sym (c.in-Some-subcommand_matches-3.ensures.found.0 refl))
+    (sym c.in-Some-subcommand_matches-3.ensures.rows) (sym c.in_ok-series.was ∙ c.series_of.ensures)
+
+-- what lines would do
 pub returns : goal.returns
 returns c =
-    explain_is (out-ArgMatches c.args.matches.now).subcommand (found_of c.in_ok-options.options.now)
-    c.in_ok-series.series (sym (c.in_ok-options.ensures.found.0 refl))
-    (sym c.in_ok-options.ensures.rows) (sym c.in_ok-series.was ∙ c.series_of.ensures)
+    preview_is (out-ArgMatches c.args.matches.now).subcommand (found_of c.in_ok-options.options.now)
+    c.in_ok-preview.preview (sym (c.in_ok-options.ensures.found.0 refl))
+    (sym c.in_ok-options.ensures.rows) (sym c.in_ok-preview.was ∙ c.preview_asked.ensures)

@@ -12,6 +12,7 @@ returns c =
     let journal = c.args.self.now.entries in
     let race = c.args.race in
     c.seconds.ensures
+    ∙ ap (time_of c.sheet.result.now.seconds) c.number_at.ensures
     ∙ ap (λ (sheet : Sheet). time_of sheet.seconds c.args.number)
     (c.sheet.ensures.value ∙ ap (λ (kept : Kept). sheet_in kept race) c.kept.ensures.value)
     ∙ time_at rules journal (lawful_orderly rules journal c.kept.ensures.lawful) race

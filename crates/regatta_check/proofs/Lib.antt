@@ -1,0 +1,6 @@
+pub mod Agreed
+pub mod AgreedOnList
+pub mod InPlace
+pub mod LineFacts
+pub mod PlaceFacts
+pub mod RowFacts

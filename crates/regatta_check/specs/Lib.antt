@@ -1,0 +1,10 @@
+pub mod Agreement
+pub mod Checks
+pub mod Documents
+pub mod EntryRows
+pub mod Faults
+pub mod InPlace
+pub mod ListAgreement
+pub mod Places
+pub mod Rows
+pub mod Worked

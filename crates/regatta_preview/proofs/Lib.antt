@@ -1,0 +1,3 @@
+pub mod Refused
+pub mod RunFacts
+pub mod TalkFacts

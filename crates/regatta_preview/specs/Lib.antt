@@ -1,0 +1,9 @@
+pub mod Boards
+pub mod Documents
+pub mod Moves
+pub mod Previews
+pub mod Rests
+pub mod Rows
+pub mod Runs
+pub mod Talks
+pub mod Worked
