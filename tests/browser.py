@@ -20,6 +20,11 @@ def program() -> str:
     return next((found for name in PROGRAMS if (found := shutil.which(name))), "")
 
 
+def is_loaded(said: dict[str, Any], session: str) -> bool:
+    """Whether the browser says that the page of a tab is there."""
+    return said.get("method") == "Page.loadEventFired" and said.get("sessionId", "") == session
+
+
 class Browser:
     """Chromium with one tab. What it is asked are commands of the DevTools protocol."""
 
@@ -87,7 +92,8 @@ class Browser:
         """Opens a page, and waits until it is there."""
         self.ask("Page.navigate", url=address)
         end = time.monotonic() + PATIENCE
-        while self.next(end).get("method") != "Page.loadEventFired":
+        # Another tab may load a page just now, too.
+        while not is_loaded(self.next(end), self.session):
             pass
         self.run("document.fonts.ready.then(() => new Promise(requestAnimationFrame))")
 

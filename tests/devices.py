@@ -2,17 +2,22 @@
 of its own, and a network that can be cut."""
 from __future__ import annotations
 
+import atexit
 import base64
 import json
+import os
 import socket
 import threading
 import time
+import unittest
 from collections.abc import Callable
 from typing import Any
 
 from browser import Browser
 
 PATIENCE = 90.0
+# Milliseconds that are more than a second, by whatever a page learns of the office's clock in between
+LATER = 1500
 # What a page says of a script that takes an element for there that isn't.
 ABSENT = "Cannot read properties of null"
 
@@ -27,6 +32,8 @@ class Chromium(Browser):
 
     def __init__(self, *options: str) -> None:
         self.faults: list[str] = []
+        # The contexts of the devices that are there
+        self.contexts: list[str] = []
         # Bytes that came of each address at its first time, with the head, packed as they were
         self.loaded: dict[str, int] = {}
         self.addresses: dict[str, str] = {}
@@ -48,6 +55,48 @@ class Chromium(Browser):
                 self.faults.append(entry["text"][:300])
         return heard
 
+    def forget(self) -> None:
+        """Throws away all devices, with what they remember, and what went wrong in their pages."""
+        self.session = ""
+        for context in self.contexts:
+            self.ask("Target.disposeBrowserContext", browserContextId=context)
+        self.contexts.clear()
+        self.faults.clear()
+        self.loaded.clear()
+        self.addresses.clear()
+
+    def is_there(self) -> bool:
+        """Whether the browser runs, and answers."""
+        try:
+            self.session = ""
+            return bool(self.ask("Browser.getVersion"))
+        except (AssertionError, OSError):
+            return False
+
+
+# The browser of each process, by its number: one that is forked has none of its own.
+OWN: dict[int, Chromium] = {}
+
+
+@atexit.register
+def close_own() -> None:
+    """Ends the browser of this process."""
+    if found := OWN.pop(os.getpid(), None):
+        found.close()
+
+
+def chromium_of(trial: unittest.TestCase) -> Chromium:
+    """The browser of this process, without a device in it, and none once the trial has ended: each trial makes its own."""
+    number = os.getpid()
+    if number in OWN and not OWN[number].is_there():
+        close_own()
+    if number not in OWN:
+        OWN[number] = Chromium()
+    found = OWN[number]
+    found.forget()
+    trial.addCleanup(found.forget)
+    return found
+
 
 class Device:
     """One device: a context of its own in the browser."""
@@ -57,6 +106,8 @@ class Device:
         self.chromium = chromium
         chromium.session = ""
         self.context: str = context or chromium.ask("Target.createBrowserContext")["browserContextId"]
+        if not context:
+            chromium.contexts.append(self.context)
         self.target = chromium.ask("Target.createTarget", url="about:blank",
                                    browserContextId=self.context)["targetId"]
         self.session = chromium.ask("Target.attachToTarget", targetId=self.target, flatten=True)["sessionId"]
@@ -78,6 +129,7 @@ class Device:
         """Throws the device away, with all that it remembers."""
         self.chromium.session = ""
         self.chromium.ask("Target.disposeBrowserContext", browserContextId=self.context)
+        self.chromium.contexts.remove(self.context)
 
     def resize(self, width: int, height: int, scale: float = 1, touch: bool = False) -> None:
         self.ask("Emulation.setDeviceMetricsOverride", width=width, height=height, mobile=touch,
@@ -180,6 +232,17 @@ class Device:
             file.write(base64.b64decode(data))
 
     # The finish page
+
+    def another_second(self) -> None:
+        """Waits until what is tapped next has a later second than what was tapped before. Moments are by the office's clock,
+        whose seconds begin elsewhere than this page's, and which the page may learn more exactly in between."""
+        self.run("import('/office/static/office.js').then(async ({now}) => { const before = now();"
+                 f" while (now() < before + {LATER}) await new Promise(done => setTimeout(done, 50)); }})")
+
+    def is_ahead(self) -> float:
+        """By how many seconds this page takes the office's clock to be ahead of the computer's."""
+        return float(self.run("import('/office/static/office.js').then(({now}) =>"
+                              " now() - performance.timeOrigin - performance.now())")) / 1000
 
     def tap(self, sail: str, name: str = "") -> None:
         """A finger on a boat of the finish page, once the boats have stopped moving."""

@@ -19,7 +19,7 @@ import tempfile
 import threading
 import time
 import unittest
-from collections.abc import Iterator
+from collections.abc import Callable, Iterator
 from dataclasses import asdict, dataclass, field
 from types import TracebackType
 from typing import Union
@@ -30,7 +30,7 @@ HERE = os.path.dirname(os.path.abspath(__file__))
 # The tests that need a browser, or take more than some seconds.
 SLOW = os.path.join(HERE, "slow")
 sys.path[1:1] = [SLOW, os.path.dirname(HERE)]
-# Seconds after which a worker that still tries the same checks is ended; a slow machine may need more.
+# Seconds after which a worker that still tries the same check is ended; a slow machine may need more.
 PATIENCE = float(os.environ.get("PATIENCE", "900"))
 # Seconds that a worker has for its end when there are no more checks.
 LEAVE = 60.0
@@ -59,8 +59,9 @@ def processor_seconds() -> float:
 class Result(unittest.TestResult):
     """Makes a report of each check. One whose parts fail has failed once, however many they are."""
 
-    def __init__(self) -> None:
+    def __init__(self, begins: Callable[[], object] = bool) -> None:
         super().__init__()
+        self.begins = begins
         self.reports: dict[str, Report] = {}
         self.begun, self.used = time.monotonic(), processor_seconds()
 
@@ -74,6 +75,7 @@ class Result(unittest.TestResult):
 
     def startTest(self, test: unittest.TestCase) -> None:
         super().startTest(test)
+        self.begins()
         self.begun, self.used = time.monotonic(), processor_seconds()
 
     def stopTest(self, test: unittest.TestCase) -> None:
@@ -114,17 +116,18 @@ class Result(unittest.TestResult):
 # A worker
 
 def work() -> None:
-    """Tries the checks that each line of the input names, and answers each line with one of reports.
+    """Tries the checks that each line of the input names, and answers each line with an empty one as each begins, and
+    one of reports.
 
     What the checks and their children print goes to a file of its own.
     """
-    orders, answers = os.fdopen(os.dup(0)), os.fdopen(os.dup(1), "w")
+    orders, answers = os.fdopen(os.dup(0)), os.fdopen(os.dup(1), "w", buffering=1)
     with tempfile.TemporaryFile("w+", errors="replace") as printed, open(os.devnull) as nothing:
         os.dup2(nothing.fileno(), 0)
         os.dup2(printed.fileno(), 1)
         os.dup2(printed.fileno(), 2)
         for line in orders:
-            found = Result()
+            found = Result(lambda: answers.write("\n"))
             unittest.defaultTestLoader.loadTestsFromNames(line.split()).run(found)
             sys.stdout.flush()
             sys.stderr.flush()
@@ -134,7 +137,17 @@ def work() -> None:
             printed.truncate()
             json.dump([text, [asdict(report) for report in found.reports.values()]], answers)
             answers.write("\n")
-            answers.flush()
+
+
+def line_in_time(process: subprocess.Popen[str]) -> str:
+    """The next line that a worker answers; empty if it ends, or is ended."""
+    assert process.stdout
+    alarm = threading.Timer(PATIENCE, process.kill)
+    alarm.start()
+    try:
+        return process.stdout.readline()
+    finally:
+        alarm.cancel()
 
 
 class Worker:
@@ -151,16 +164,14 @@ class Worker:
                 stdout=subprocess.PIPE, text=True)
         process = self.process
         assert process.stdin and process.stdout
-        alarm = threading.Timer(PATIENCE, process.kill)
-        alarm.start()
+        answer = "\n"
         try:
             process.stdin.write(" ".join(names) + "\n")
             process.stdin.flush()
-            answer = process.stdout.readline()
+            while answer == "\n":
+                answer = line_in_time(process)
         except BrokenPipeError:
             answer = ""
-        finally:
-            alarm.cancel()
         if not answer:
             self.end()
             why = f"its process ended with status {process.returncode}\n"

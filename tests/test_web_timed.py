@@ -130,6 +130,22 @@ class Timed(Prepared):
         scorer.tap("FINISH 1 GBR7 15:07:00 15:05:00")
         self.assertEqual(scorer.state()["races"]["1"]["at"], {"GBR101": moment("15:05:00")})
 
+    def test_moment_with_a_code(self) -> None:
+        """A finisher who gets a code keeps the moment of her tap, as her row keeps her finish: phones show boats of one second in
+        the order of their taps."""
+        ann, scorer, tapped = self.device("finish"), self.device("scorer"), dict[str, int]()
+        ann.tap("START 1 14:00")
+        for sail in ("NED12", "GBR7", "GBR101"):
+            tapped[sail] = moment("15:05:00") + 10 * len(tapped)
+            self.assertEqual(ann.tap(f"FINISH 1 {sail}", at=tapped[sail])[0], 200)
+        for line in ("", "MARK 1 GBR7 RET", "CLEAR 1 GBR7", "MARK 1 GBR7 RET"):
+            if line:
+                self.assertEqual(ann.tap(line)[0], 200)
+            race = scorer.state()["races"]["1"]
+            self.assertEqual((race["at"], race["by"]), (tapped, {sail: "Ann" for sail in tapped}), line)
+        ann.tap("STRIKE 1 NED12")
+        self.assertNotIn("NED12", scorer.state()["races"]["1"]["at"])
+
     def test_typed_with_dots(self) -> None:
         """A start and an elapsed time may be typed with dots, as a finish may: 15:00:00 after 13:51:58 is 4,082 s x 1.000,
         and 3,900 s x 0.900."""

@@ -9,11 +9,12 @@ import os
 import re
 import signal
 import subprocess
+import time
 import unittest
 
 import browser
 import helpers
-from devices import Chromium, Device, Line
+from devices import LATER, Chromium, Device, Line, chromium_of
 
 NAMES = """GBR 101,Kestrel,A. Moss|GBR 7,Sea Pink,J. Hale|NED 12,Windhover,P. de Wit|FRA 9,Plover,C. Blanc
 GBR 33,Turnstone,R. Shaw|IRL 5,Curlew,M. Byrne|DEN 61,Terne,L. Holm|GER 412,Möwe,H. Jansen|GBR 118,Dunlin,E. Frost
@@ -50,14 +51,6 @@ class WebTrial(helpers.Series):
     chromium: Chromium
     web: subprocess.Popen[bytes] | None = None
 
-    @classmethod
-    def setUpClass(cls) -> None:
-        cls.chromium = Chromium()
-
-    @classmethod
-    def tearDownClass(cls) -> None:
-        cls.chromium.close()
-
     def setUp(self) -> None:
         super().setUp()
         os.remove(os.path.join(self.here, "cup", "entries.csv"))
@@ -68,8 +61,8 @@ class WebTrial(helpers.Series):
             self.make(name, entries, title=self.titles[name], **self.settings, **more)
         self.port = helpers.free_port(self)
         self.links: dict[str, str] = {}
-        self.chromium.faults.clear()
         self.addCleanup(self.end)
+        self.chromium = chromium_of(self)
         self.start()
 
     # The office
@@ -160,6 +153,12 @@ class WebTrial(helpers.Series):
         for device in devices:
             device.until("document.querySelector('#link').dataset.state === 'live'"
                          " && !Object.keys(localStorage).some(key => key.startsWith('tap:'))")
+
+    def later(self, *devices: Device) -> None:
+        """Waits until what is tapped next on one of these devices is later than what was tapped on the others, also by the
+        office's clock as each knows it: they are to say in which order they were tapped."""
+        ahead = [device.is_ahead() for device in devices]
+        time.sleep(max(ahead) - min(ahead) + LATER / 1000)
 
     def need_no_faults(self) -> None:
         self.assertEqual(self.chromium.faults, [])

@@ -61,11 +61,11 @@ def is_answered(session: TapSession, sent: Sent) -> bool:
 
 
 def moments_noted(register: Register, sheets: Mapping[int, Any]) -> dict[tuple[int, str], tuple[int, str]]:
-    """When each finisher was tapped, and on which device, whose tap was for the sheet alone, as before the start is known.
-    The sheets have her finish by that tap still."""
+    """When each finisher was tapped, and on which device, whose finish by that tap the sheets have still: also of one who is
+    in no order, as before the start is known, or with a code."""
     found = dict[tuple[int, str], tuple[int, str]]()
     for sent in register.all():
-        finisher = finisher_of(sent.line) if sent.answer == "NOTED" and sent.at and not sent.changed_nothing else None
+        finisher = finisher_of(sent.line) if sent.made and sent.at and not sent.changed_nothing else None
         if finisher and finish_in(sheets, *finisher) == sent.made.get("finish"):
             found[finisher] = (sent.at, sent.by)
     return found

@@ -2,17 +2,19 @@
 tapped has its moment by the office's clock all the same, or somebody is asked."""
 from __future__ import annotations
 
+import datetime
 import json
 import os
 import signal
 import time
 import unittest
+import zoneinfo
 
 import helpers
 from devices import Device, Line
-from web_office import WebTrial, finishes
+from web_office import WebTrial, finishes, zone_of_afternoon
 
-HOUR, DAY = 3_600_000, 86_400
+HOUR = 3_600_000
 # A clock that is ahead by window.jump milliseconds, also in a page that is loaded again
 WRONG = """(() => {
     const real = Date.now;
@@ -72,7 +74,7 @@ class Clock(ClockTrial):
         line.cut()
         ann.reload()
         ann.tap("GBR7")
-        time.sleep(2)
+        self.later(ann, ben)
         ben.tap("NED12")
         self.settle(ben)
         line.mend()
@@ -171,6 +173,10 @@ class Clock(ClockTrial):
         """When a boat was tapped, as the office has it, in seconds."""
         return float(phone.run(f"{OFFICE}.then(office => office.ask('state/cup')).then(state => state.races[1].at.{sail})")) / 1000
 
+    def need_between(self, before: float, at: float, after: float) -> None:
+        """A tap has to have its moment, as well as the page knows the office's clock."""
+        self.assertTrue(before - NEAR / 1000 < at < after + NEAR / 1000, (at - before, at - after))
+
     def test_set_and_put_right(self) -> None:
         """The clock is set without a connection and put right before there is one: a tap between has its moment by the time
         that passed."""
@@ -182,7 +188,7 @@ class Clock(ClockTrial):
         ann.run(SET.format(0))
         self.net.mend()
         self.settle(ann)
-        self.assertTrue(before - 1 < self.moment_of(ann, "GBR7") < after + 1)
+        self.need_between(before, self.moment_of(ann, "GBR7"), after)
 
     def test_put_right_and_loaded(self) -> None:
         """So it is, and the page is loaded again before there is a connection: somebody says which of two moments holds, and
@@ -200,7 +206,7 @@ class Clock(ClockTrial):
         self.assertEqual(ann.text("dialog h2"), "When was GBR 7 tapped?")
         ann.choose("before")
         self.settle(ann)
-        self.assertTrue(before - 1 < self.moment_of(ann, "GBR7") < after + 1)
+        self.need_between(before, self.moment_of(ann, "GBR7"), after)
 
     def test_asleep(self) -> None:
         """A phone sleeps without a connection, before taps and after them: nobody is asked, and each has its moment."""
@@ -286,7 +292,7 @@ class Clock(ClockTrial):
         self.settle(ann)
         notes = [json.loads(line) for line in self.text("cup", "office", "web.taps").splitlines()]
         at = next(note["at"] for note in notes if note.get("line") == "MARK 1 GBR7 RET") / 1000
-        self.assertTrue(before - 1 < at < after + 1, at - after)
+        self.need_between(before, at, after)
 
     def test_dead_line(self) -> None:
         """The clock is put back by hours, and the line is dead without having said so: the page notices."""
@@ -306,21 +312,21 @@ class Clock(ClockTrial):
 class Timed(ClockTrial):
     """A class by corrected time."""
     classes = {"cup": "Sail,Boat,TCF\nGBR 101,Kestrel,1.000\nGBR 7,Sea Pink,0.900\nNED 12,Windhover,1.250\n"}
-    settings = {"handicap": "yes", "zone": "UTC"}
+    # No check comes to the end of a day.
+    settings = {"handicap": "yes", "zone": zone_of_afternoon()}
 
     def start(self) -> None:
         os.makedirs(os.path.join(self.here, "cup", "times"), exist_ok=True)
         self.write(f"[times]\nsystem = tcf\nprogram = {helpers.TIMES}\n", "cup", "times", "rules.ini")
         super().start()
 
-    def finish_in_sheet(self, sail: str) -> int:
-        """Her finish in the sheet, in seconds of the day."""
+    def finish_in_sheet(self, sail: str) -> str:
+        """Her finish in the sheet."""
         rows = [row.split(",") for row in self.text("cup", "times", "race-1.csv").splitlines()[1:]]
-        hours, minutes, seconds = map(int, next(row[2] for row in rows if row[0] == sail).split(":"))
-        return hours * 3600 + minutes * 60 + seconds
+        return next(row[2] for row in rows if row[0] == sail)
 
     def test_slow_at_first(self) -> None:
-        """A tap before the first answer of a slow office has the office's time in the sheet, to the second or so."""
+        """A tap before the first answer of a slow office has the office's time in the sheet, as well as the phone knew it."""
         line = self.line()
         ann = self.wrong(2 * HOUR, line.own, NO_WORKER)
         ann.click("#start")
@@ -330,13 +336,15 @@ class Timed(ClockTrial):
         ann.run("window.isOld = true")
         ann.ask("Page.reload")
         ann.until("!window.isOld && !!document.querySelector('#grid .boat')")
-        before = int(time.time())
+        before = time.time()
         ann.tap("GBR7")
         after = time.time()
         self.assertEqual(ann.run(f"{OFFICE}.then(office => office.me)"), None)
         line.held = b""
         self.settle(ann)
-        moments = [int(second) % DAY for second in range(before - 1, int(after) + 2)]
+        near = NEAR // 1000
+        moments = [datetime.datetime.fromtimestamp(second, zoneinfo.ZoneInfo(self.settings["zone"])).strftime("%H:%M:%S")
+                   for second in range(int(before) - near, int(after) + near + 1)]
         self.assertIn(self.finish_in_sheet("GBR7"), moments)
 
     def test_days_ahead(self) -> None:

@@ -10,7 +10,7 @@ import helpers
 import web_devices
 from devices import PATIENCE, Device, Line
 from stub_office import StubOffice
-from web_office import BOATS, FOLKBOATS, WebTrial, entries_of, finishes
+from web_office import BOATS, FOLKBOATS, WebTrial, entries_of, finishes, zone_of_afternoon
 
 ROWS = "#list li .sail"
 # What is by sail, and may be empty
@@ -89,8 +89,9 @@ class Finish(WebTrial):
         self.assertEqual(before[:6], ["5", "7", "8", "9", "12", "14"])
         ann.tap("GBR7")
         ann.tap("POR8")
-        self.assertEqual(ann.texts("#grid .boat b"), before)
-        self.assertEqual(ann.texts("#grid .boat.done i"), ["1st", "2nd"])
+        # Both at once: they leave when nobody has tapped for some seconds.
+        shown = "['#grid .boat b', '#grid .boat.done i'].map(what => [...document.querySelectorAll(what)].map(one => one.textContent))"
+        self.assertEqual(ann.run(shown), [before, ["1st", "2nd"]])
         ann.until("document.querySelectorAll('#grid .boat').length === 22")
         ann.digit("12")
         self.assertEqual(ann.texts("#grid .boat b"), ["12", "312", "412"])
@@ -229,9 +230,11 @@ class Finish(WebTrial):
         line, ann, ben = self.parted()
         ben.tap("GBR33")
         self.settle(ben)
+        self.later(ann, ben)
         ann.click("#unread")
         ann.tap("GBR7")
         ann.tap("NED12")
+        self.later(ann, ben)
         ben.tap("FRA9")
         # Both saw her.
         ben.tap("NED12")
@@ -279,7 +282,7 @@ class Finish(WebTrial):
         helpers.run("type", "cup", "--role", "finish", lines="FINISH 1 NED12\n", cwd=self.here)
         ann.tap("GBR7")
         ann.tap("IRL5")
-        time.sleep(0.5)
+        self.later(ann, ben)
         ben.tap("FRA9")
         self.settle(ben)
         line.mend()
@@ -293,7 +296,7 @@ class Finish(WebTrial):
         """A boat that was tapped without a connection is ahead of a place that the other device has kept since."""
         line, ann, ben = self.parted()
         ann.tap("GBR7")
-        time.sleep(0.5)
+        self.later(ann, ben)
         ben.click("#unread")
         self.settle(ben)
         line.mend()
@@ -464,7 +467,7 @@ class Two(WebTrial):
         line.mend()
         ann.until("document.querySelector('#link').dataset.state === 'sending' || !!document.querySelector('dialog[open]')")
         title = "document.querySelector('dialog[open] h2')?.textContent"
-        ann.until(f"{title} === 'Where did GBR 33 Folkboats finish?'", 30)
+        ann.until(f"{title} === 'Where did GBR 33 Folkboats finish?'")
         # On a slow machine the question may be there again before the row opens.
         ann.until(f"""(() => {{
             if ({title} === 'GBR 33 Autumn Cup') return true;
@@ -472,10 +475,10 @@ class Two(WebTrial):
             document.querySelector("dialog[open]")?.end("");
             document.querySelector("#list li[data-key='cup GBR33'] button.finisher").click();
             return false;
-        }})()""", 60)
+        }})()""")
         ann.run("document.querySelector('dialog[open]').end('')")
         asked = f"{title} === 'Where did GBR 33 Folkboats finish?' && performance.now() - window.putOffAt"
-        self.assertGreater(ann.until(asked, 30), 5900)
+        self.assertGreater(ann.until(asked), 5900)
         self.assertEqual(self.journal("cup"), finishes("GBR33"))
 
     def test_taps_of_a_class_that_has_gone(self) -> None:
@@ -564,7 +567,8 @@ class Alike(WebTrial):
 class Timed(WebTrial):
     """A class by corrected time."""
     classes = {"cup": "Sail,Boat,TCF\nGBR 101,Kestrel,1.000\nGBR 7,Sea Pink,0.900\nNED 12,Windhover,1.250\n"}
-    settings = {"handicap": "yes"}
+    # No check comes to the end of a day.
+    settings = {"handicap": "yes", "zone": zone_of_afternoon()}
 
     def start(self) -> None:
         os.makedirs(os.path.join(self.here, "cup", "times"), exist_ok=True)
@@ -707,7 +711,7 @@ class Timed(WebTrial):
         ann.click("#unread")
         ann.until("document.querySelector('#list li.unread')?.innerText.includes('?1')")
         moment = ann.texts("#list li.unread .end b")[0]
-        ann.until("new Date().toTimeString().slice(0, 8) > " + repr(moment))
+        ann.another_second()
         ann.tap("NED12")
         self.settle(ann)
         ann.reload()
@@ -752,9 +756,7 @@ class Timed(WebTrial):
             ann.choose("strike")
             self.settle(ann)
             self.assertNotEqual(self.text("cup", "times", "race-1.csv"), held)
-            # The clock of the page is another second by now.
-            moment = ann.run("new Date().getSeconds()")
-            ann.until(f"new Date().getSeconds() !== {moment}")
+            ann.another_second()
             ann.click("#undo")
             self.settle(ann)
             self.assertEqual(self.text("cup", "times", "race-1.csv"), held, sail)

@@ -53,8 +53,8 @@ class Still(WebTrial):
         ann.until(f"!{GRID}.includes('GBR101') && !('moving' in document.querySelector('#grid').dataset)")
         before = ann.run(GRID)
         ann.tap("USA4")
-        ann.until("!!document.querySelector('#list li[data-sail=USA4]')")
-        self.assertEqual(ann.run(GRID), before)
+        # At once: she leaves when nobody has tapped for some seconds.
+        self.assertEqual(ann.until(f"!!document.querySelector('#list li[data-sail=USA4]') && {GRID}"), before)
         self.need_no_faults()
 
 

@@ -28,13 +28,14 @@ class Order(TimedTrial):
         return phone.texts("#list li .sail")
 
     def test_a_code_of_a_finisher(self) -> None:
-        """A finisher who gets a code stays where she was, and so do the others, in whatever order the sheet has them."""
+        """A finisher who gets a code stays where she was, and so do the others, in whatever order the sheet has them: also one
+        who came in the same second, and one who came later."""
         ann = self.started()
-        for sail in ("NED12", "GBR7", "GBR101"):
+        for sail in ("NED12", "GBR7"):
             ann.tap(sail)
-            self.settle(ann)
-            second = ann.run("new Date().getSeconds()")
-            ann.until(f"new Date().getSeconds() !== {second}")
+        ann.another_second()
+        ann.tap("GBR101")
+        self.settle(ann)
         ann.click("#code")
         ann.tap("GBR7")
         ann.choose("RET")
@@ -71,8 +72,7 @@ class Order(TimedTrial):
         ann, sue = self.started(), self.device("scorer", "Sue")
         ann.click("#unread")
         ann.until("document.querySelectorAll('#list li.unread').length === 1")
-        second = ann.run("new Date().getSeconds()")
-        ann.until(f"new Date().getSeconds() !== {second}")
+        ann.another_second()
         ann.tap("GBR101")
         self.settle(ann)
         for time, shown in (("23:59:58", ["?1", "GBR 101", "GBR 7"]), ("00:00:01", ["NED 12", "?1", "GBR 101", "GBR 7"])):

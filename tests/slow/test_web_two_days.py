@@ -84,7 +84,6 @@ class TwoDays(NewOffice):
         cls.saturday, cls.sunday_evening, cls.folkboats = tables()
         os.environ["TZ"] = zone_of_afternoon()
         cls.addClassCleanup(lambda: os.environ.pop("TZ") if before is None else os.environ.update(TZ=before))
-        super().setUpClass()
 
     def setUp(self) -> None:
         super().setUp()

@@ -6,7 +6,7 @@ import unittest
 
 import helpers
 from devices import Device, Line
-from web_office import WebTrial
+from web_office import WebTrial, zone_of_afternoon
 
 OPEN = "!!document.querySelector('dialog[open]')"
 
@@ -15,7 +15,8 @@ OPEN = "!!document.querySelector('dialog[open]')"
 class TwoStarts(WebTrial):
     """Ann's start has come, and GBR 101 has finished, when Bob's comes, which is three seconds later."""
     classes = {"cup": "Sail,Boat,TCF\nGBR 101,Kestrel,1.000\nGBR 7,Sea Pink,0.900\n"}
-    settings = {"handicap": "yes", "zone": "UTC"}
+    # No check comes to the end of a day.
+    settings = {"handicap": "yes", "zone": zone_of_afternoon()}
 
     def start(self) -> None:
         os.makedirs(os.path.join(self.here, "cup", "times"), exist_ok=True)

@@ -6,7 +6,7 @@ import unittest
 
 import helpers
 from devices import Device
-from web_office import WebTrial
+from web_office import WebTrial, zone_of_afternoon
 
 ASKED, SHUT = "!!document.querySelector('dialog[open]')", "!document.querySelector('dialog[open]')"
 TITLE, ALARM = "document.querySelector('dialog[open] h2')?.textContent", "document.querySelector('#alarm').textContent"
@@ -18,7 +18,8 @@ class TimedTrial(WebTrial):
     classes = {"cup": "Sail,Boat,TCF\nGBR 33,Fulmar,1.050\nNED 80,Sterna,0.850\n", "fleet": "Sail,Boat,TCF\nGBR 33,Cox,1.000\nGBR 7,Bay,0.900\n",
                "lev": "Sail,Boat\nGBR 33,Turnstone\nGBR 101,Kestrel\nNED 12,Windhover\n"}
     titles = {"cup": "Folkboats", "fleet": "Dinghies", "lev": "Dragons"}
-    settings = {"zone": "UTC"}
+    # No check comes to the end of a day.
+    settings = {"zone": zone_of_afternoon()}
     timed: tuple[str, ...] = ("cup", "fleet")
 
     def make(self, name: str, entries: str = helpers.ENTRIES, **values: str) -> str:
@@ -173,7 +174,7 @@ class TwoTimed(TimedTrial):
         phone.ask("Page.addScriptToEvaluateOnNewDocument", source="Object.defineProperty(navigator, 'serviceWorker', {value: undefined})")
         phone.come(self.address(self.links["finish"], line.own), "Ann’s phone")
         for name in ("finish-start", "finish-answers", "sheet-why", "remark-words"):
-            phone.until(f"performance.getEntriesByType('resource').some(one => one.name.endsWith('/{name}.js') && one.responseEnd)", 30)
+            phone.until(f"performance.getEntriesByType('resource').some(one => one.name.endsWith('/{name}.js') && one.responseEnd)")
         line.cut()
         phone.until("document.querySelector('#link').dataset.state === 'away'")
         self.race(phone, "cup")
