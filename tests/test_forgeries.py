@@ -502,11 +502,17 @@ class Forgeries(ForgedPages):
         self.assertIn(r"'GBR 101, A. Mo\u2423ss'", self.said(self.made["results"].replace(">A. Moss<", ">A. Mo\u2423ss<", 1))[1])
 
     def test_row_of_names(self) -> None:
-        """Names that have points or a sail as a row has are said: a browser of texts may break a line before them. One number is
-        no row, nor is a sail without its comma."""
+        """Names that have points, a sail or a leader as a page has are said: a browser of texts may break a line before them. The
+        sail may be that of no boat, and a sign of another writing may look like a point or a comma. One number is no row, nor is
+        a sail without its comma."""
         for text, is_odd in (("x 1 GBR 101, A. Moss 2.0 1.0 1.0", True), ("2,0 \uff11\uff0e\uff10", True), ("Elan 3.1", False),
                              ("x 1 GBR 101, A. Moss 1.0", True), ("x 1 ned12\uff0c Al", True), ("NED 12 Friends", False),
-                             ("Al, Bo, 101, Ned", False), ("Al " * 27, True), ("Al " * 18, False)):
+                             ("Al, Bo, 101, Ned", False), ("Al " * 27, True), ("Al " * 18, False),
+                             ("x 1 GBR 33, Jo", True), ("x GBR 33X, Jo", True), ("x 1= K 6, Jo", True), ("x G\u0412R 33, Jo", True),
+                             ("x 1 GBR 7\u201a Jo", True), ("x 1 GBR 7 \u060c Jo", True), ("x 1 GBR 7\ua4f9 Jo", True), ("x 1 6\u0326 Jo", True),
+                             ("x GBR 7; Jo", True), ("1\ua4f80 1\u06d40", True), ("x Leads: GBR 33", True), ("x first\u2236 33", True),
+                             ("First Light", False), ("Dehler 34, Blue", False), ("12 Metre, Blue", False), ("J\u00fcrgen 7, \u00d8rn", False),
+                             ("\u00d3 R\u00edor\u00e1in 12 \u00c9lan", False), ("\u0418\u0432\u0430\u043d 12, \u041f\u0451\u0442\u0440", False)):
             with self.subTest(text=text):
                 status, said = self.said(self.forged("results", ("series", 0, "boats", 0, 2), text))
                 self.assertEqual((status, "may be taken for a row of it" in said), (0, is_odd), said)

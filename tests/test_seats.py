@@ -4,6 +4,8 @@ from __future__ import annotations
 import contextlib
 import itertools
 import os
+import subprocess
+import sys
 import time
 import unittest
 from collections.abc import Callable
@@ -55,6 +57,16 @@ class Seats(helpers.Series):
             self.assertEqual(window.sessions[0].link.ask("RANK A"), "NO 7")
             window.sessions[0].disconnect()
         self.assertEqual(said, ["Waiting: all seats of the office are taken. Ctrl-C ends this window."])
+
+    def test_note_that_never_ends(self) -> None:
+        """What is there instead of the note of an office's processes is no note, however long it is."""
+        folder = self.folder()
+        asked = ("import resource, sys; resource.setrlimit(resource.RLIMIT_AS, (1 << 30, 1 << 30)); "
+                 "from raceoffice.office.process import OfficeProcess; from raceoffice.series.folder import Folder; "
+                 "folder = Folder(sys.argv[1]); print(folder.noted_program(), OfficeProcess(folder).noted())")
+        os.symlink("/dev/zero", folder.file("office", "pid"))
+        done = subprocess.run([sys.executable, "-c", asked, folder.path], capture_output=True, text=True, timeout=helpers.PATIENCE)
+        self.assertEqual((done.stdout, done.stderr[-200:]), ("0 (0, '', '')\n", ""))
 
     def test_several_classes(self) -> None:
         """A full office of several isn't back before it has a seat."""

@@ -10,11 +10,11 @@ from collections.abc import Callable
 
 from raceoffice import system
 from raceoffice.errors import Gone, Trouble
-from raceoffice.files import PRIVATE, opened_as_ours, opened_at_once, replace_whole, text_if_any
+from raceoffice.files import PRIVATE, opened_as_ours, replace_whole, text_if_any
 from raceoffice.program.link import Link, remove_socket
 from raceoffice.program.messages import cut_note, without_note
 from raceoffice.remarks import remark
-from raceoffice.series.folder import Folder, Lock
+from raceoffice.series.folder import NOTED, Folder, Lock
 from raceoffice.series.run_program import Program, serve_words
 from raceoffice.series.windows import OFFICE, Presence, open_windows
 from raceoffice.session.dialogue import Question
@@ -143,9 +143,8 @@ class OfficeProcess:
     def noted(self) -> tuple[int, str, str]:
         """What is noted of the program: its process, that of its window, and since when it is open. It may
         be of an earlier opening, and another process have its number by now."""
-        with contextlib.suppress(OSError, ValueError), \
-                open(self.file("pid"), encoding="ascii", opener=opened_at_once) as file:
-            number, window, since = file.read().split()
+        with contextlib.suppress(ValueError):
+            number, window, since = text_if_any(self.file("pid"), NOTED).split()
             return int(number), window, since
         return 0, "", ""
 
