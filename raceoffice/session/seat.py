@@ -242,3 +242,16 @@ class Seat:
         """Keeps a place again as it was kept before."""
         self.places.keep_again(unread.race, unread.mark)
         self.look_at_places()
+
+    # A race that is abandoned. A window that dies knows nothing of it any more: here a page's session has more.
+
+    def lines_left(self) -> list[str]:
+        """The lines of an earlier try, which a crash has ended, that weren't sent."""
+        return []
+
+    def lines_agreed(self, lines: list[str]) -> list[str]:
+        """All lines of an earlier try if just these are left of it; else these."""
+        return lines
+
+    def note_lines_of_race(self, lines: list[str]) -> None:
+        """Notes which lines take a race away before the first is sent; none once all were."""
