@@ -259,7 +259,8 @@ class Scorer:
     def send_times(self, name: str, race: int) -> None:
         """Sends what a sheet has and the journal lacks."""
         agreed: list[object] = []
-        tap = {"id": f"{random.getrandbits(128):032x}", "line": f"TIMES {race}", "at": int(time.time() * 1000), "seen": 0}
+        tap: dict[str, object] = {"id": f"{random.getrandbits(128):032x}", "line": f"TIMES {race}",
+                                  "at": int(time.time() * 1000), "seen": 0}
         for _ in range(40):
             status, said = self.ask("POST", f"/office/scorer/line/{name}", {**tap, "agreed": agreed})
             if status == 403:

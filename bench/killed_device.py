@@ -300,7 +300,10 @@ class Hand:
     def tap_as_jury(self) -> None:
         number, pick = self.chance.randint(1, 9), self.chance.choice
         sail, chance = pick(self.sails()), self.chance.random()
-        if chance < 0.4:
+        if self.name in TIMED:
+            # What the jury clears changes sheets, each of which is one device's here.
+            self.add(f"PENALTY {number} {sail} SCP")
+        elif chance < 0.4:
             self.add(f"MARK {number} {sail} DSQ")
         elif chance < 0.6:
             self.add(f"PENALTY {number} {sail} SCP")

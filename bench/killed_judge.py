@@ -15,6 +15,7 @@ import time
 from dataclasses import dataclass, field
 from typing import Any
 
+from killed_device import LATE as LATE_SAILS
 from killed_device import Memory, Tap
 
 # Milliseconds between a change of a file and the look that sees it
@@ -77,17 +78,19 @@ def removals_of(verdict: Verdict, folder: str, generations: list[Generation]) ->
         if not lines:
             # An office that is opened writes its journal anew.
             continue
-        sail = next((noted[at] for at in [len(found)] if at < len(noted)), "")
-        about = [entry for entry in lines if sail not in plain(entry).split()]
-        # Who was placed by her goes with the line that struck that one again.
+        # What goes with her is what names her first, and who was placed by her until that one was struck.
+        entered = [plain(entry).split()[2] for entry in lines if plain(entry).split()[1] == "ENTER"]
+        sail = entered[0] if len(entered) == 1 else ""
         beside = {plain(entry).split()[3] for entry in lines if sail in plain(entry).split()[4:]}
-        about = [entry for entry in about if not (plain(entry).split()[1] == "STRIKE" and plain(entry).split()[3] in beside)]
-        if about or not sail:
-            verdict.wrong.append(f"{verdict.name}: {lines[:6]} went at {time.ctime(after.began)}, and the log has "
-                                 f"{sail or 'no removal'} there")
+        others = [entry for entry in lines if sail not in plain(entry).split()
+                  and not (plain(entry).split()[1] == "STRIKE" and plain(entry).split()[3] in beside)]
+        if others or not sail:
+            verdict.wrong.append(f"{verdict.name}: {lines[:6]} of {len(lines)} entries went at {time.ctime(after.began)}, and are "
+                                 f"of no boat that was taken out")
         found.append(Removal(sail, after.began, lines))
-    if len(noted) != len(found):
-        verdict.wrong.append(f"{verdict.name}: the log has {len(noted)} removals, and the journals {len(found)}")
+    if noted != [one.sail for one in found]:
+        verdict.wrong.append(f"{verdict.name}: by the log {noted} were taken out, and by the journals "
+                             f"{[(one.sail, time.strftime('%H:%M:%S', time.gmtime(one.at))) for one in found]}")
     verdict.figures["boats taken out"] = len(found)
     verdict.figures["lines taken out with them"] = sum(len(one.gone) for one in found)
     return found
@@ -244,6 +247,9 @@ def rows_of(devices: dict[str, list[Tap]], removals: list[Removal], east: int) -
     """What the rows of all boats may be: each race is of one device, whose taps are in order."""
     rows: dict[tuple[str, str], Row] = collections.defaultdict(Row)
     about: dict[str, tuple[str, str]] = {}
+    # The jury's CLEAR takes codes out of a sheet.
+    cleared = {(tap.line.split()[1], tap.line.split()[2]) for who, taps in devices.items() for tap in taps
+               if who[0] == "j" and tap.line.startswith("CLEAR ")}
     for who, taps in devices.items():
         for tap in [one for one in taps if who[0] == "f" and one.kind == "line"]:
             words = tap.line.split()
@@ -266,6 +272,8 @@ def rows_of(devices: dict[str, list[Tap]], removals: list[Removal], east: int) -
             row.taps.append(f"{tap.line} [{tap.id[:6]} {tap.status} {tap.outcome} {tap.said.get('answer', '')}]")
     for (race, sail), row in rows.items():
         follow_removals(row, sail, removals, None)
+        if (race, sail) in cleared:
+            row.may_be |= {(finish, "") for finish, _ in row.may_be}
     return rows
 
 
@@ -325,7 +333,8 @@ def judge_sheets(verdict: Verdict, devices: dict[str, list[Tap]], removals: list
             wrong += 1
             verdict.wrong.append(f"{verdict.name}: race {race}, {sail} has {has} in the sheet, and should have {row.may_be}: "
                                  f"{row.taps}; taken out {[one.at for one in removals if one.sail == sail]}, last {row.last}")
-        is_timed = bool(has[0]) and not has[1] and bool(start_of(folder, race)) and sail in entered
+        # A late entry has no rating, so that her time waits for one.
+        is_timed = bool(has[0]) and not has[1] and bool(start_of(folder, race)) and sail in entered and not is_late(sail)
         if ((race, sail) in timed) != is_timed:
             wrong += 1
             verdict.wrong.append(f"{verdict.name}: race {race}, {sail} has {has} in the sheet, and "
@@ -359,4 +368,9 @@ def judge_class(name: str, top: str, generations: list[Generation], east: int) -
 def is_listed(entry: str) -> bool:
     """Whether a boat of the entry list is entered by it."""
     words: list[Any] = plain(entry).split()
-    return words[1] == "ENTER" and not words[2].startswith("USA")
+    return words[1] == "ENTER" and not is_late(words[2])
+
+
+def is_late(sail: str) -> bool:
+    """Whether a boat is entered by a scorer."""
+    return sail in LATE_SAILS

@@ -81,18 +81,23 @@ def noted_end(logged: list[Logged]) -> Noted | None:
     found = None
     for entry in logged:
         # A boat is taken out while the office is closed.
-        what = "closed" if entry.line.startswith(REMOVED) else entry.line
+        what = "closed" if is_of_removal(entry, REMOVED) else entry.line
         read = NOTED.match(entry.answer) if what in NOTING else None
         if read:
             found = Noted(what, number_of(read[1]), read[2] or "", number_of(read[3]), read[4] or "")
     return found
 
 
+def is_of_removal(entry: Logged, *words: str) -> bool:
+    """Whether the office has noted with one of these words that a boat is taken out. What somebody types has a role."""
+    return entry.line.startswith(words) and not entry.seat and not entry.role
+
+
 def removal_begun(folder: Folder, data: bytes) -> str:
     """The boat without whom a journal is there, if a kill came before that was logged; empty if there is none. The log has
     nothing of the office since, and said how the journal would be."""
-    found = [entry for entry in folder.logged() if entry.line in NOTING or entry.line.startswith((REMOVING, REMOVED))]
-    last = next((entry for entry in found[-1:] if entry.line.startswith(REMOVING)), None)
+    found = [entry for entry in folder.logged() if entry.line in NOTING or is_of_removal(entry, REMOVING, REMOVED)]
+    last = next((entry for entry in found[-1:] if is_of_removal(entry, REMOVING)), None)
     read = NOTED.match(last.answer) if last else None
     is_there = read and data and digest_of(data) == read[2]
     return last.line.removeprefix(REMOVING) if last and is_there else ""

@@ -141,13 +141,13 @@ def take_out(folder: Folder, found: Removal, by: str = "") -> tuple[str, str]:
     # If a kill comes once the journal is replaced, the next opening knows by whom it is shorter.
     folder.log(by, "", "", f"{REMOVING}{found.sail}", note_now(folder, found.data))
     fault = replace(folder, found.data, by)
+    # If she is entered again, no finish of before comes back.
+    take_out_of_sheets(folder, found.sail)
     try:
         log_taken_out(folder, found.sail, found.data, by)
     except Trouble:
         # Of a disk that fails for a moment nobody is asked at the next opening.
         log_taken_out(folder, found.sail, found.data, by)
-    # After a kill just before, the sheets have a row of a boat that isn't entered, which is left out.
-    take_out_of_sheets(folder, found.sail)
     with contextlib.suppress(Trouble):
         # A finisher who was said to be that boat is kept again, in all her classes.
         Twins(folder).follow(history_of(folder), by)
@@ -159,8 +159,8 @@ def finish_removal(folder: Folder, by: str = "") -> None:
     data = folder.parts()[0]
     if sail := removal_begun(folder, data):
         note_out(folder, by)
-        log_taken_out(folder, sail, data, by)
         take_out_of_sheets(folder, sail)
+        log_taken_out(folder, sail, data, by)
 
 
 def log_taken_out(folder: Folder, sail: str, data: bytes, by: str) -> None:
