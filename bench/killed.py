@@ -88,7 +88,6 @@ class Soak:
         with open(os.path.join(folder, "series.ini"), "w", encoding="utf-8") as file:
             file.write(settings.filled_in({"title": name, "class": name, "program": self.programs[0], "zone": zone,
                                            "handicap": "yes" if is_timed else "no"}))
-        late = [f"USA{number}" for number in range(1, 7)]
         sails = [f"GBR{number}" for number in range(1, BOATS[name] + 1)]
         with open(os.path.join(folder, "entries.csv"), "w", encoding="utf-8") as file:
             file.write("Sail,Boat,Helm" + (",TCF" if is_timed else "") + "\n")
@@ -98,9 +97,6 @@ class Soak:
             os.mkdir(os.path.join(folder, "times"))
             with open(os.path.join(folder, "times", "rules.ini"), "w", encoding="utf-8") as file:
                 file.write(f"[times]\nsystem = tcf\nprogram = {self.programs[1]}\n")
-            # Late entries have a rating of their own list.
-            with open(os.path.join(folder, "late.txt"), "w", encoding="utf-8") as file:
-                file.write("\n".join(late))
 
     # The web
 
@@ -129,9 +125,9 @@ class Soak:
         with open(os.path.join(self.top, "devices.txt"), "ab") as out:
             self.devices[who] = subprocess.Popen(
                 [sys.executable, DEVICE, self.top, who, role, str(self.port), str(number), self.links[role]],
-                stdin=subprocess.DEVNULL, stdout=out, stderr=subprocess.STDOUT, env={**os.environ, "EAST": str(self.east)})
+                stdin=subprocess.DEVNULL, stdout=out, stderr=subprocess.STDOUT, env={**os.environ, "EAST": str(self.east), "PYTHONPATH": TOP})
 
-    # What is looked at
+    # The journals
 
     def watch(self) -> None:
         """Holds each journal that there is, so that what it had last can be read when another has taken its place."""
@@ -262,7 +258,7 @@ class Scorer:
         tap: dict[str, object] = {"id": f"{random.getrandbits(128):032x}", "line": f"TIMES {race}",
                                   "at": int(time.time() * 1000), "seen": 0}
         for _ in range(40):
-            status, said = self.ask("POST", f"/office/scorer/line/{name}", {**tap, "agreed": agreed})
+            status, said = self.ask("POST", f"/office/scorer/line/{name}", tap | {"agreed": agreed})
             if status == 403:
                 self.learn()
             elif status == 409:
@@ -328,6 +324,14 @@ def end(soak: Soak) -> None:
         soak.kill_program(name)
 
 
+def keep_journals(soak: Soak) -> None:
+    """Keeps each journal beside the series, so that it can be read afterwards."""
+    for name in CLASSES:
+        for at, one in enumerate(soak.generations[name]):
+            with open(os.path.join(soak.top, f"{name}-journal-{at:04d}.txt"), "w", encoding="ascii") as file:
+                file.write(f"{one.began}\n" + "".join(f"{entry}\n" for entry in one.entries()))
+
+
 def judge(soak: Soak) -> bool:
     """Prints the figures, and what is wrong; whether nothing is."""
     print(f"kills: {sum(soak.kills.values())} {json.dumps(soak.kills)}")
@@ -360,6 +364,7 @@ def main() -> int:
     begun = time.monotonic()
     try:
         run(soak, asked)
+        keep_journals(soak)
         is_good = judge(soak)
     finally:
         end(soak)

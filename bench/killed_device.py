@@ -12,6 +12,7 @@ import json
 import os
 import random
 import secrets
+import subprocess
 import sys
 import threading
 import time
@@ -354,7 +355,16 @@ class Hand:
         return status, said
 
     def remove(self, sail: str) -> None:
-        self.asked("remove", sail=sail)
+        """Takes a boat out on the page, or at a terminal while the office is closed."""
+        if self.chance.random() < 0.7:
+            self.asked("remove", sail=sail)
+            return
+        self.asked("close")
+        done = subprocess.run([sys.executable, "-m", "raceoffice", "remove", self.name, sail], cwd=os.path.dirname(self.go),
+                              input="y\n", encoding="utf-8", stdout=subprocess.PIPE, stderr=subprocess.STDOUT)
+        self.memory.note(what="did", path="remove at a terminal", at=time.time(), body={"sail": sail}, status=done.returncode,
+                         said=done.stdout)
+        self.open()
 
     def close_and_open(self) -> None:
         self.asked("close")

@@ -76,7 +76,7 @@ def removals_of(verdict: Verdict, folder: str, generations: list[Generation]) ->
             verdict.wrong.append(f"{verdict.name}: a journal of {len(old)} entries doesn't go on in the next")
         lines = [entry for entry in old if entry in gone]
         if not lines:
-            # An office that is opened writes its journal anew.
+            # An office that is opened writes its journal to a new file.
             continue
         # What goes with her is what names her first, and who was placed by her until that one was struck.
         entered = [plain(entry).split()[2] for entry in lines if plain(entry).split()[1] == "ENTER"]

@@ -43,7 +43,12 @@ def abandon(seat: Seat, race: Race) -> bool:
     if sheet:
         # What it had would be sent again by the next tap.
         clear_sheet(seat.folder, race.number, sheet)
-    seat.note_lines_of_race(plan.lines)
+    seat.note_lines_of_race(race.number, plan.lines)
+    return is_taken_away(seat, race, plan, kept)
+
+
+def is_taken_away(seat: Seat, race: Race, plan: Plan, kept: list[str]) -> bool:
+    """Sends the lines of a race, and keeps these places no longer; whether all lines were taken."""
     before, length = seat.facts.standing, len(seat.facts.sheet.journal)
     # What a CLEAR takes, and what stays of that, is in the lines after it alone; and no place stays of a race that is gone.
     with system.stops_deferred():
@@ -51,7 +56,7 @@ def abandon(seat: Seat, race: Race) -> bool:
             return False
         named = [unread for unread in seat.unread.of(race.number) if unread.mark in kept]
         seat.drop_safely(named, f"race {race.number} was taken away")
-    seat.note_lines_of_race([])
+    seat.note_lines_of_race(race.number, [])
     lines = count(len(plan.lines), "line")
     seat.done = Done(why=remark("undo-abandon", race=race.number, lines=lines))
     seat.say_of("taken-away", race=race.number, lines=len(plan.lines))
@@ -66,9 +71,19 @@ def what_goes(seat: Seat, race: Race) -> tuple[Plan, list[str], bytes]:
     """How a race is taken away, the places that are dropped, and its sheet of times without it. What a crash has kept from
     being given back to a boat who was cleared comes first."""
     plan = plan_of_abandoning(race)
-    owed = list(itertools.takewhile(is_given_back, seat.lines_left()))
-    plan.lines = owed + plan.lines
+    plan.lines = owed(race, *seat.lines_begun(race.number)) + plan.lines
     return plan, seat.unread.marks(race.number), sheet_without_race(seat.folder, race.number, plan.jury)
+
+
+def owed(race: Race, sent: list[str], left: list[str]) -> list[str]:
+    """What the last boat that was cleared gets back, of the lines that weren't sent before a crash. If somebody has given her
+    something since, that is right."""
+    found = list(itertools.takewhile(is_given_back, left))
+    if not found:
+        return []
+    sail = found[0].split()[2]
+    given = list(itertools.takewhile(lambda line: is_given_back(line) and line.split()[2] == sail, reversed(sent)))
+    return found if len(race.held(sail)) == len(given) else []
 
 
 def is_given_back(line: str) -> bool:

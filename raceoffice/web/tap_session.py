@@ -230,28 +230,21 @@ class TapSession(Session):
         """Whether this tap takes a race away."""
         return self.tap.line.startswith("ABANDON ")
 
-    def lines_left(self) -> list[str]:
+    def lines_begun(self, race: int) -> tuple[list[str], list[str]]:
         key = correction_of(lines_id(self.tap.id))
         if not self.register.decisions.get(key):
-            return []
+            return [], []
         self.lines = self.register.count_taken(lines_id(self.tap.id), self.facts.sheet.journal)
         whole = [line.text for line in self.register.corrections[key]]
-        sent, left = whole[:self.lines], whole[self.lines:]
-        owed = list(itertools.takewhile(is_given_back, left))
-        if not owed:
-            return left
-        # Somebody else may have given the boat something since she was cleared: then that is right.
-        _, number, sail, _ = owed[0].split()
-        given = list(itertools.takewhile(lambda line: is_given_back(line) and line.split()[2] == sail, reversed(sent)))
-        return left[len(owed):] if len(self.facts.race(number).held(sail)) != len(given) else left
+        return whole[:self.lines], whole[self.lines:]
 
     def lines_agreed(self, lines: list[str]) -> list[str]:
-        key = correction_of(lines_id(self.tap.id))
-        if not self.register.decisions.get(key) or lines != self.lines_left():
-            return lines
-        return [line.text for line in self.register.corrections[key]]
+        sent, left = self.lines_begun(self.facts.race(self.tap.line.split()[1]).number)
+        # What somebody else has given back isn't given twice.
+        is_what_is_left = lines in (left, list(itertools.dropwhile(is_given_back, left)))
+        return sent + left if (sent or left) and is_what_is_left else lines
 
-    def note_lines_of_race(self, lines: list[str]) -> None:
+    def note_lines_of_race(self, race: int, lines: list[str]) -> None:
         key = correction_of(lines_id(self.tap.id))
         self.register.under_way = lines_id(self.tap.id)
         taken = self.register.corrections.get(key, [])[:self.lines]

@@ -81,7 +81,7 @@ class Removals(Trial):
         self.after = self.files()
         after = lines_of(self.after)
         self.assertEqual([line for line in lines_of(before) if self.sail not in line.split()], after)
-        self.assertGreater(len(steps), 20)
+        self.assertGreater(len(steps), 15)
         for stop, step in enumerate(steps, 1):
             for is_torn in (False, True)[:1 + (step == "write")]:
                 with self.subTest(stop=stop, step=step, is_torn=is_torn):
