@@ -9,6 +9,7 @@ import pwd
 import re
 import sys
 import threading
+import time
 import unittest
 from typing import Any
 from unittest import mock
@@ -213,6 +214,19 @@ class Out(Web):
         self.assertEqual((state["standing"]["rows"][0]["sail"], state["standing"]["rows"][0]["net"]), ("GBR7", "1.0"))
         self.assertEqual(self.scorer.tap("FINISH 1 GBR101", agreed=[{"kind": "correction", "values": {"race": 1}}])[0], 200)
         self.assertIn("\tBea\t\t\tremoved USA4\t", self.text("cup", "office.log"))
+
+    def test_tapped_before(self) -> None:
+        """Entries have lower numbers since she went: what others have sent since a tap of before is asked about all the same."""
+        ann, bob = self.device("finish", "Ann"), self.device("finish", "Bob")
+        self.scorer.tap("ENTER USA4", agreed=[{"kind": "enter-unlisted", "values": {"sail": "USA4"}}])
+        ann.tap("FINISH 1 USA4")
+        seen, at, line = ann.state()["entries"], int(time.time() * 1000), "PENALTY 1 GBR7 ZFP"
+        self.assertEqual(self.remove("USA4", self.remove()[1]["question"])[0], 200)
+        helpers.until("the state", lambda: not self.scorer.again().state()["trouble"])
+        self.assertEqual(bob.again().tap(line, seen=seen - 2)[0], 200)
+        status, said = ann.again().tap(line, at=at, seen=seen)
+        self.assertEqual((status, said["question"]["kind"]), (409, "sent-already"), said)
+        self.assertEqual(self.journal(), [f"FINISH {line}"])
 
     def test_stays(self) -> None:
         """She stays if another boat was placed beside her, or if she isn't there; and only a scorer takes her out."""

@@ -9,7 +9,7 @@ from typing import Any
 from unittest import mock
 
 from on_water import OnWater, lines_of_swap
-from raceoffice.errors import NotSent
+from raceoffice.errors import NotSent, Trouble
 from raceoffice.remarks import remark
 from raceoffice.series.abandoned import note_abandoned
 from raceoffice.series.folder import Folder
@@ -87,6 +87,30 @@ class Late(OnWater):
         self.window_bob.session.do("abandon 2")
         for race in (1, 2):
             self.assertEqual(self.do("FINISH", "Ann", f"FINISH {race} FRA9", at=late, behind=""), "abandoned-since")
+
+    def test_abandoned_in_a_window(self) -> None:
+        """The office goes once a boat is cleared, and before she has her ZFP again: who abandons the race again in that window
+        gives it back. What is of another race isn't sent, and nothing is given twice."""
+        session = self.window_bob.session
+        session.role = "SCORER"
+        session.office().ask("ROLE SCORER")
+        for line in ("MARK 1 GBR7 OCS", "PENALTY 1 GBR7 ZFP", "MARK 2 FRA9 OCS"):
+            session.do(line)
+        exchange = session.exchange
+
+        def exchanged(line: str, unread: object = None) -> str:
+            if line.startswith("PENALTY "):
+                raise Trouble("the office has gone")
+            return exchange(line)
+        with mock.patch.object(session, "exchange", exchanged), self.assertRaises(Trouble):
+            session.do("abandon 1")
+        session.look()
+        self.assertEqual(session.facts.commands[-1], "CLEAR 1 GBR7")
+        session.do("abandon 2")
+        self.assertEqual(session.facts.commands[-1], "CLEAR 2 FRA9")
+        for _ in range(2):
+            session.do("abandon 1")
+            self.assertEqual(session.facts.commands[-2:], ["CLEAR 2 FRA9", "PENALTY 1 GBR7 ZFP"])
 
     def test_abandoned_once_more(self) -> None:
         """A yes is about the race that was abandoned by then: if it is abandoned once more before that comes, it is asked again."""

@@ -140,7 +140,7 @@ class Races(Prepared):
 
     def test_finish_of_an_abandoned_race(self) -> None:
         """A finish that was tapped before the race was abandoned, and comes later, is asked about before anything is written,
-        also after a restart. One of the race that is sailed again isn't: 3,600 s x 1.000."""
+        also after a restart. One of the race that is sailed again isn't: 60 s x 1.000, so that midnight is seldom in between."""
         ann, bob, scorer, id = self.device("finish"), self.device("finish", "Bob"), self.device("scorer"), new_id()
         late = int(time.time() * 1000) - 60_000
         ann.tap("START 1 14:00", at=late)
@@ -156,8 +156,8 @@ class Races(Prepared):
             ann, bob = ann.again(), bob.again()
         start = int(time.time()) * 1000
         ann.tap("START 1", at=start + 1000, was="")
-        self.assertEqual(bob.tap("FINISH 1 GBR101", at=start + 3_601_000)[1]["outcome"], "taken")
-        self.assertEqual(self.journal()[-1], "FINISH TIME 1 GBR101 3600")
+        self.assertEqual(bob.tap("FINISH 1 GBR101", at=start + 61_000)[1]["outcome"], "taken")
+        self.assertEqual(self.journal()[-1], "FINISH TIME 1 GBR101 60")
 
     def test_times_of_a_race_that_counts(self) -> None:
         """The times of a sheet that go to another race, which counts: it is asked before anything is sent."""

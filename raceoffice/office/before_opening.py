@@ -15,6 +15,7 @@ from raceoffice.series.copies import best_copy, places_with
 from raceoffice.series.folder import Folder
 from raceoffice.series.health import (changes_of_rules, faults, journal_fault, lost_journal, rules_before)
 from raceoffice.series.kept_places import Places
+from raceoffice.series.remove_boat import finish_removal
 from raceoffice.series.run_program import rules_of
 from raceoffice.series.second_folder import second_of
 from raceoffice.series.settings import Settings, rules_remark
@@ -74,7 +75,9 @@ def is_meant(folder: Folder, say: Say, ask: Ask) -> bool:
 
 def is_continued(folder: Folder, say: Say, ask: Ask) -> bool:
     """Whether journal.txt and office/places go on from what the office had, or somebody opens it all the
-    same."""
+    same. A boat who was taken out just before a kill is out."""
+    if not folder.is_held():
+        finish_removal(folder)
     text = differences(folder)
     if not text:
         return True

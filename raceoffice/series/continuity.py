@@ -13,12 +13,14 @@ from raceoffice.series.copies import Copy, bytes_of, newest
 from raceoffice.series.folder import Folder, shown, whole_part
 from raceoffice.series.kept_places import Places
 from raceoffice.series.log import Logged
-from raceoffice.series.older_copy import is_from_before
+from raceoffice.series.older_copy import REMOVED, is_from_before
 from raceoffice.series.second_folder import second_of
 from raceoffice.wording import count
 
 # What the office notes when it is opened or closed, and when a copy becomes the journal again.
 NOTING = ("opened", "closed", "restored")
+# What the log has before a boat is taken out, with the journal that is to be there then.
+REMOVING = "removing "
 NOTED = re.compile(r"(no|[0-9]{1,9}) entr(?:y|ies)(?: ([0-9a-f]{16}))?"
                    r"(?:, (no|[0-9]{1,9}) lines? of places ([0-9a-f]{16}))?")
 
@@ -78,10 +80,27 @@ def noted_end(logged: list[Logged]) -> Noted | None:
     """The last end that the log notes."""
     found = None
     for entry in logged:
-        read = NOTED.match(entry.answer) if entry.line in NOTING else None
+        # A boat is taken out while the office is closed.
+        what = "closed" if is_of_removal(entry, REMOVED) else entry.line
+        read = NOTED.match(entry.answer) if what in NOTING else None
         if read:
-            found = Noted(entry.line, number_of(read[1]), read[2] or "", number_of(read[3]), read[4] or "")
+            found = Noted(what, number_of(read[1]), read[2] or "", number_of(read[3]), read[4] or "")
     return found
+
+
+def is_of_removal(entry: Logged, *words: str) -> bool:
+    """Whether the office has noted with one of these words that a boat is taken out. What somebody types has a role."""
+    return entry.line.startswith(words) and not entry.seat and not entry.role
+
+
+def removal_begun(folder: Folder, data: bytes) -> str:
+    """The boat without whom a journal is there, if a kill came before that was logged; empty if there is none. The log has
+    nothing of the office since, and said how the journal would be."""
+    found = [entry for entry in folder.logged() if entry.line in NOTING or is_of_removal(entry, REMOVING, REMOVED)]
+    last = next((entry for entry in found[-1:] if is_of_removal(entry, REMOVING)), None)
+    read = NOTED.match(last.answer) if last else None
+    is_there = read and data and digest_of(data) == read[2]
+    return last.line.removeprefix(REMOVING) if last and is_there else ""
 
 
 def number_of(text: str | None) -> int:
@@ -92,7 +111,7 @@ def number_of(text: str | None) -> int:
 def difference(folder: Folder) -> str:
     """How journal.txt isn't what the office had; empty if it goes on from that, or has no entries."""
     data = folder.parts()[0]
-    if not parts_of(data)[1]:
+    if not parts_of(data)[1] or removal_begun(folder, data):
         return ""
     try:
         last = newest(folder)

@@ -54,7 +54,7 @@ class Unsaved:
     def follow(self, entry: Logged) -> None:
         """Reads one line of the log. What was there at a closing isn't lost, nor is what came before."""
         found = re.match(r"OK ([0-9]{1,9})\b", entry.answer)
-        if entry.line == "closed":
+        if entry.line == "closed" or entry.line.startswith("removed ") and not entry.role:
             self.answered.clear()
             self.unanswered.clear()
         elif entry.line == "opened":

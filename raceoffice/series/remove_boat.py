@@ -14,9 +14,11 @@ from raceoffice.program.replay import ran
 from raceoffice.program.standing import Change, Standing, changes
 from raceoffice.remarks import Remark, in_a_row, remark
 from raceoffice.series import copies, entry_list
-from raceoffice.series.continuity import differences, note_now, own_entries, parts_of, with_entries
+from raceoffice.series.continuity import (REMOVING, differences, note_now, own_entries, parts_of, removal_begun,
+                                          with_entries)
 from raceoffice.series.folder import Folder, Lock
 from raceoffice.series.kept_places import Places, command_of, history_of, kept_in_words
+from raceoffice.series.older_copy import REMOVED
 from raceoffice.series.race_sheets import sheets_with, take_out_of_sheets
 from raceoffice.series.run_program import Program, options_in_force, replayed
 from raceoffice.series.second_folder import places_copy_of, second_of
@@ -132,28 +134,40 @@ def places_kept_again(folder: Folder, found: Removal) -> list[tuple[int, str]]:
 def take_out(folder: Folder, found: Removal, by: str = "") -> tuple[str, str]:
     """Takes a boat out of the journal of a closed office: the dated copy that has her still, and why there is no
     second copy, if there is none. `by` is who does."""
+    finish_removal(folder, by)
     copy = copies.keep(folder, found.held)
     note_places(folder, by)
     note_taken_out(folder, found, by)
+    # If a kill comes once the journal is replaced, the next opening knows by whom it is shorter.
+    folder.log(by, "", "", f"{REMOVING}{found.sail}", note_now(folder, found.data))
     fault = replace(folder, found.data, by)
+    # If she is entered again, no finish of before comes back.
+    take_out_of_sheets(folder, found.sail)
     try:
-        log_taken_out(folder, found, by)
+        log_taken_out(folder, found.sail, found.data, by)
     except Trouble:
         # Of a disk that fails for a moment nobody is asked at the next opening.
-        log_taken_out(folder, found, by)
-    # After a kill just before, the sheets have a row of a boat that isn't entered, which is left out.
-    take_out_of_sheets(folder, found.sail)
+        log_taken_out(folder, found.sail, found.data, by)
     with contextlib.suppress(Trouble):
         # A finisher who was said to be that boat is kept again, in all her classes.
         Twins(folder).follow(history_of(folder), by)
     return copy, fault
 
 
-def log_taken_out(folder: Folder, found: Removal, by: str) -> None:
+def finish_removal(folder: Folder, by: str = "") -> None:
+    """Finishes what a kill has left undone once a boat was out of a journal whose office is closed."""
+    data = folder.parts()[0]
+    if sail := removal_begun(folder, data):
+        note_out(folder, by)
+        take_out_of_sheets(folder, sail)
+        log_taken_out(folder, sail, data, by)
+
+
+def log_taken_out(folder: Folder, sail: str, data: bytes, by: str) -> None:
     """Makes a dated copy of the shorter journal, and logs that the office goes on from there."""
-    copies.keep(folder, found.data)
-    note = note_now(folder, found.data)
-    folder.log(by, "", "", f"removed {found.sail}", note)
+    copies.keep(folder, data)
+    note = note_now(folder, data)
+    folder.log(by, "", "", f"{REMOVED}{sail}", note)
     folder.log("", "", "", "closed", note)
 
 

@@ -3,6 +3,7 @@ from __future__ import annotations
 
 import contextlib
 import dataclasses
+import itertools
 from collections.abc import Callable, Iterable, Iterator
 from dataclasses import dataclass, field
 from time import monotonic
@@ -50,6 +51,8 @@ class Seat:
         self.at_the_line = AtTheLine(folder)
         self.done: Done | None = None
         self.sent: dict[int, str] = {}
+        # The races that were begun to be taken away: how many entries there were, and the lines.
+        self.races_begun: dict[int, tuple[int, list[str]]] = {}
         self.at: int | None = None
         self.link: Link | None = None
         # Whether the office was closed for good when it went.
@@ -242,3 +245,21 @@ class Seat:
         """Keeps a place again as it was kept before."""
         self.places.keep_again(unread.race, unread.mark)
         self.look_at_places()
+
+    # A race that is abandoned, of which a crash may leave a part
+
+    def lines_begun(self, race: int) -> tuple[list[str], list[str]]:
+        """The lines of a race that was begun to be taken away: those that the journal has, and those that are left. A window
+        that dies forgets them."""
+        entries, lines = self.races_begun.get(race, (0, []))
+        since = [as_kept(line) for line in self.facts.commands[entries:]]
+        sent = list(itertools.takewhile(lambda line: as_kept(line) in since, lines))
+        return sent, lines[len(sent):]
+
+    def lines_agreed(self, lines: list[str]) -> list[str]:
+        """All lines of an earlier try if somebody has agreed to them, and these are what is left; else these."""
+        return lines
+
+    def note_lines_of_race(self, race: int, lines: list[str]) -> None:
+        """Notes which lines take a race away before the first is sent; none once all were."""
+        self.races_begun[race] = len(self.facts.commands), lines

@@ -21,8 +21,9 @@ from raceoffice.web.states import Values
 from raceoffice.web.tap_session import TapSession
 from raceoffice.web.taps import LINE, PLACED, Tap, correction_of, part_id
 
-# The lines that a correction may have, each with its fewest words, and how many lines at most.
-KINDS = {"STRIKE": 3, "FINISH": 3, "TIE": 4, "BEFORE": 4, "TIME": 4, "TIMES": 2, "MARK": 4, "PENALTY": 4, "CLEAR": 3}
+# The lines that a correction may have, each with its fewest words, and how many lines at most. Those of a race that is
+# abandoned are one, too.
+KINDS = {"UNSCORE": 2, "STRIKE": 3, "FINISH": 3, "TIE": 4, "BEFORE": 4, "TIME": 4, "TIMES": 2, "MARK": 4, "PENALTY": 4, "CLEAR": 3}
 MOST = 4000
 
 

@@ -24,6 +24,7 @@ from raceoffice.series.abandoned import abandonments
 from raceoffice.series.folder import Folder
 from raceoffice.series.kept_places import History, Places
 from raceoffice.series.lost_lines import as_kept
+from raceoffice.series.older_copy import taken_out_since
 from raceoffice.series.run_program import settings_in_force
 from raceoffice.session.facts import Facts
 from raceoffice.session.question_words import question
@@ -547,10 +548,12 @@ class Room:
             return
         commands, wanted, journal = session.facts.commands, as_kept(line), session.facts.sheet.journal
         own = self.register.entries_by(session.name, journal) | entries_of_starts(self.register)
-        others = [at for at in range(tap.seen + 1, len(journal) + 1) if journal[at - 1] not in own]
+        # Once a boat was taken out, nobody knows which entries the device showed.
+        seen = 0 if tap.at and taken_out_since(self.folder.logged(), tap.at / 1000) else tap.seen
+        others = [at for at in range(seen + 1, len(journal) + 1) if journal[at - 1] not in own]
         # A finisher whose tap was undone may be tapped again on the same device, and a sheet's finish struck again.
         is_own_meant = words[0] in PLACED or self.folder.settings.handicap
-        later = [at for at in (others if is_own_meant else range(tap.seen + 1, len(journal) + 1))
+        later = [at for at in (others if is_own_meant else range(seen + 1, len(journal) + 1))
                  if commands[at - 1] == wanted and not is_timed_again(commands[at - 1:])]
         if later:
             session.is_agreed(question("sent-already", session.facts.called, line=line, entry=later[-1]))

@@ -2,6 +2,7 @@
 from __future__ import annotations
 
 import contextlib
+import itertools
 import os
 import time
 from collections.abc import Callable, Iterable, Iterator, Sequence
@@ -15,7 +16,7 @@ from raceoffice.series.folder import Folder
 from raceoffice.series.kept_places import Places, Twin
 from raceoffice.series.lost_lines import as_kept
 from raceoffice.series.unknown_finishers import Unread
-from raceoffice.session.abandon import abandon
+from raceoffice.session.abandon import abandon, is_given_back
 from raceoffice.session.dialogue import Question, Said
 from raceoffice.session.facts import Facts
 from raceoffice.session.finishers import keep_or_send, send_or_place
@@ -23,7 +24,8 @@ from raceoffice.session.seat import Done
 from raceoffice.session.session import Session
 from raceoffice.session.undo import line_if_moved, undo
 from raceoffice.terminal import Once
-from raceoffice.web.taps import DROPPED, KEPT_AGAIN, Register, Sent, Tap, finisher_of, last_numbers, number_of
+from raceoffice.web.taps import (DROPPED, KEPT_AGAIN, Register, Sent, Tap, correction_of, finisher_of, last_numbers, lines_id,
+                                 number_of, part_id)
 from raceoffice.wording import count
 
 # How the register has a tap that was undone before it came, and an undo that had nothing to take back.
@@ -146,7 +148,7 @@ class TapSession(Session):
     def begin(self, tap: Tap, name: str) -> None:
         """Begins with a tap of a device."""
         self.tap, self.name, self.lines, self.mark, self.answer, self.at = tap, name, 0, "", "", None
-        self.is_of_several, self.later = tap.line.startswith("ABANDON "), ""
+        self.is_of_several, self.later = self.is_abandoning, ""
         self.twins.end = time.monotonic() + PLACES
         self.places = Places(self.folder, name, self.twins.end, tap.id)
         self.said.clear()
@@ -156,8 +158,11 @@ class TapSession(Session):
         first, *rest = line.split() or [""]
         if first == "UNDO":
             return self.undo_tap()
-        if first == "ABANDON" and len(rest) == 1:
-            return abandon(self, self.facts.race(rest[0]))
+        if self.is_abandoning and len(rest) == 1:
+            try:
+                return abandon(self, self.facts.race(rest[0]))
+            finally:
+                self.register.under_way = ""
         if "?" in first:
             return self.is_place_taken(first, rest)
         return send_or_place(self, line, False, self.later)
@@ -216,6 +221,37 @@ class TapSession(Session):
         if not sent.entry:
             return Done(unread=unread, what="dropped" if rest[1:] == [DROPPED] else "kept")
         return Done(self.facts.commands[number - 1], number, unread)
+
+    # A race that is abandoned: the register has its lines as those of a correction, so that what a crash has left of them
+    # is shown until somebody sends it, or leaves it.
+
+    @property
+    def is_abandoning(self) -> bool:
+        """Whether this tap takes a race away."""
+        return self.tap.line.startswith("ABANDON ")
+
+    def lines_begun(self, race: int) -> tuple[list[str], list[str]]:
+        key = correction_of(lines_id(self.tap.id))
+        if not self.register.decisions.get(key):
+            return [], []
+        self.lines = self.register.count_taken(lines_id(self.tap.id), self.facts.sheet.journal)
+        whole = [line.text for line in self.register.corrections[key]]
+        return whole[:self.lines], whole[self.lines:]
+
+    def lines_agreed(self, lines: list[str]) -> list[str]:
+        sent, left = self.lines_begun(self.facts.race(self.tap.line.split()[1]).number)
+        # What somebody else has given back isn't given twice.
+        is_what_is_left = lines in (left, list(itertools.dropwhile(is_given_back, left)))
+        return sent + left if (sent or left) and is_what_is_left else lines
+
+    def note_lines_of_race(self, race: int, lines: list[str]) -> None:
+        key = correction_of(lines_id(self.tap.id))
+        self.register.under_way = lines_id(self.tap.id)
+        taken = self.register.corrections.get(key, [])[:self.lines]
+        if lines:
+            self.register.decide(key, [*taken, *(Line(self.role, line) for line in lines)])
+        elif self.register.decisions.get(key):
+            self.register.decide(key, [])
 
     # What is noted in the register before it is done
 
@@ -288,12 +324,19 @@ class TapSession(Session):
             taken += [as_kept(part.line)] if part.entry else []
         return taken
 
+    @property
+    def id_of_line(self) -> str:
+        """By what the register has the line that is sent now."""
+        if self.is_abandoning:
+            return part_id(lines_id(self.tap.id), self.lines - 1)
+        # A boat that was overtaken on the way to her place is put there by lines of their own.
+        return f"{self.tap.id}/{self.lines}" if self.is_of_several or self.lines > 1 else self.tap.id
+
     def exchange(self, line: str, unread: Unread | None = None) -> str:
         """The office's answer to a line, which is noted before it is sent."""
         self.lines += 1
         self.mark = unread.mark if unread else self.mark
-        # A boat that was overtaken on the way to her place is put there by lines of their own.
-        id = f"{self.tap.id}/{self.lines}" if self.is_of_several or self.lines > 1 else self.tap.id
+        id = self.id_of_line
         self.note_begin(id, line, unread.mark if unread else "")
         self.answer = super().exchange(line, unread)
         self.register.end(id, self.answer, self.mark)
@@ -305,7 +348,7 @@ class TapSession(Session):
         return self.mark
 
     def drop(self, waiting: list[Unread], why: str) -> None:
-        if len(waiting) == 1 and not self.tap.line.startswith("ABANDON "):
+        if len(waiting) == 1 and not self.is_abandoning:
             self.mark = waiting[0].mark
             self.note_begin(self.tap.id, f"{self.mark} {waiting[0].race} {DROPPED}", self.mark)
         super().drop(waiting, why)
