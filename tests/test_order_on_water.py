@@ -327,6 +327,27 @@ class AsRecorded(OnWater):
         self.assertRaises(NotSent, self.scorer.correct, lines)
         self.assertEqual(self.seen(1), [["NED12"], ["GBR7"], ["FRA9"]])
 
+    def test_changed_since_it_was_shown(self) -> None:
+        """Nothing is sent of a swap, or of boats that go to another race, if these lines were made of another order. Who has
+        finished elsewhere meanwhile is no reason."""
+        moved = ["FINISH 9 NED12", "FINISH 9 FRA9", "TIE 9 GBR33 FRA9", *(f"STRIKE {{}} {sail}" for sail in ("NED12", "FRA9", "GBR33"))]
+        changes = (("BEFORE GBR7 FRA9", True, False), ("TIE GBR7 NED12", True, False), ("STRIKE NED12, FINISH NED12", True, True),
+                   ("STRIKE GBR33, FINISH GBR33", False, True), ("BEFORE GBR7 NED12, FINISH IRL5", False, False))
+        for race, (change, *are_others) in enumerate(changes, 1):
+            with self.subTest(change):
+                self.check(race, "FINISH NED12, FINISH FRA9, TIE GBR33 FRA9", "NED12 FRA9=GBR33")
+                corrections = [lines_of_swap(self.seen(race), race, "NED12", "FRA9"), [line.format(race) for line in moved]]
+                for line in change.split(", "):
+                    self.tap(race, line)
+                for lines, is_other in zip(corrections, are_others):
+                    before = self.seen(race), self.seen(9)
+                    if is_other:
+                        self.assertRaises(NotSent, self.scorer.correct, lines)
+                        self.assertEqual((self.seen(race), self.seen(9)), before)
+                if not any(are_others):
+                    self.assertTrue(self.swap(race, "NED12", "FRA9"))
+                    self.assertEqual(self.seen(race), [["GBR7"], ["FRA9"], ["GBR33", "NED12"], ["IRL5"]])
+
     def test_move_behind_a_place(self) -> None:
         """It is asked before anything is sent whether a boat is behind a place now, and after a No nothing is."""
         self.check(1, "FINISH NED12, ?, FINISH FRA9", "NED12 ?1 FRA9")

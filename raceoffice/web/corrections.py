@@ -5,10 +5,11 @@ sends what is left of them. Until somebody does that, or leaves the rest, the sc
 """
 from __future__ import annotations
 
-from collections.abc import Mapping, Sequence
+from collections.abc import Collection, Mapping, Sequence
 from typing import Any
 
 from raceoffice.errors import NotSent
+from raceoffice.program.journal import Race
 from raceoffice.program.replay import Line
 from raceoffice.remarks import remark
 from raceoffice.web import preview
@@ -102,6 +103,7 @@ def check(room: Room, tap: Tap, lines: Sequence[Line], name: str) -> None:
     session = room.session("SCORER")
     session.begin(tap, name)
     need_no_places(session, lines)
+    need_as_shown(session, lines)
     session.need_agreed(asked_of(session, lines))
     plain = [Line(line.role, without_place(line.text)[0]) for line in lines]
     if not room.folder.settings.handicap and (refused := preview.why_refused(room.folder, room.facts, plain)):
@@ -120,3 +122,52 @@ def need_no_places(session: TapSession, lines: Sequence[Line]) -> None:
         marks = [one.mark for one in session.unread.of(race.number) if going and going[0] < one.place(race) <= going[-1]]
         if marks:
             raise NotSent(remark("places-among", marks=marks, race=race.number))
+
+
+def need_as_shown(session: TapSession, lines: Sequence[Line]) -> None:
+    """NotSent if the lines of a swap, or of boats that go to another race, were made of another order than there is now: they
+    would put boats where nobody has seen them. A sheet of times makes its own order."""
+    if session.folder.settings.handicap:
+        return
+    words = [line.text.split() for line in lines]
+    if is_swap(words) and words[3] not in backs_of(session, *words[1][1:]) or not is_in_order(session, words):
+        raise NotSent(remark("decision-changed"))
+
+
+def is_swap(words: Sequence[Sequence[str]]) -> bool:
+    """Whether two boats change places: one goes level with the other, who then goes to where the first one was."""
+    if [one[0] for one in words[:3]] != ["STRIKE", "TIE", "STRIKE"] or len(words) != 4 or len(words[1]) != 4:
+        return False
+    number, first, second = words[1][1:]
+    return words[0][1:] == [number, first] and words[2][1:] == [number, second] and words[3][1:3] == [number, second] \
+        and words[3][0] in PLACED
+
+
+def backs_of(session: TapSession, number: str, first: str, second: str) -> list[list[str]]:
+    """The lines that may put the second boat of a swap to where the first one is: level with another who is there, or just ahead
+    of whoever is next, and of the first place that is kept in between. None if the second one isn't behind her."""
+    race = session.facts.race(number)
+    ahead, behind = (next((at for at, group in enumerate(race.order) if sail in group), -1) for sail in (first, second))
+    if not 0 <= ahead < behind:
+        return []
+    if level := [sail for sail in race.order[ahead] if sail != first]:
+        return [["TIE", number, second, sail] for sail in level]
+    following = [first if sail == second else sail for sail in race.order[ahead + 1]]
+    marks = [one.mark for one in session.unread.of(race.number) if one.place(race) == ahead + 1][:1]
+    return [["BEFORE", number, second, sail, *marks] for sail in following]
+
+
+def is_in_order(session: TapSession, words: Sequence[Sequence[str]]) -> bool:
+    """Whether the boats that go to another race are put there in the order in which they are in their own now."""
+    struck = {one[2]: one[1] for one in words if one[0] == "STRIKE" and len(one) == 3}
+    groups = dict[tuple[str, str], list[set[str]]]()
+    for command, number, sail, *_ in (one for one in words if one[0] in ("FINISH", "TIE")):
+        if struck.get(sail, number) != number:
+            found = groups.setdefault((struck[sail], number), [])
+            found.append({sail}) if command == "FINISH" or not found else found[-1].add(sail)
+    return all(groups_among(session.facts.race(number), set().union(*found)) == found for (number, _), found in groups.items())
+
+
+def groups_among(race: Race, sails: Collection[str]) -> list[set[str]]:
+    """The order of some boats of a race."""
+    return [chosen for group in race.order if (chosen := {*group} & {*sails})]

@@ -73,6 +73,27 @@ class Correction(WebTrial):
         bea.click("dialog [data-sail=NED12]")
         self.shown(bea, *SAILS[:2], SAILS[3], "?", "?", "NED12")
 
+    def test_order_that_has_changed(self) -> None:
+        """While the page asks with whom a boat changes places, or which finishers are of another race, a phone puts a boat
+        between them: what is sent is of the order as it is then."""
+        finish = web_devices.Device(self.port, "finish").come(self.links["finish"], "Ben")
+        bea = self.device("scorer", "Bea")
+        self.shown(bea, *SAILS[:3])
+        bea.click(f"{ROW.format(SAILS[0])} th button")
+        bea.choose("swap")
+        finish.tap(f"BEFORE 1 {SAILS[3]} {SAILS[1]}")
+        self.shown(bea, SAILS[0], SAILS[3], SAILS[1], SAILS[2])
+        bea.click(f"dialog [data-sail={SAILS[2]}]")
+        order = [SAILS[2], SAILS[3], SAILS[1], SAILS[0]]
+        self.shown(bea, *order)
+        bea.click("#other-race")
+        for line in (f"STRIKE 1 {SAILS[0]}", f"BEFORE 1 {SAILS[0]} {SAILS[2]}"):
+            finish.tap(line)
+        self.shown(bea, SAILS[0], *order[:3])
+        bea.choose("yes")
+        bea.until("document.body.textContent.includes('6 lines sent')")
+        self.assertEqual(self.journal()[-6:], [f"SCORER FINISH 2 {sail}" for sail in order[:3]] + [f"SCORER STRIKE 1 {sail}" for sail in order[:3]])
+
     def test_another_race_and_a_place(self) -> None:
         """Boats among whom a place is kept don't go to another race until it is known who she was."""
         finish = web_devices.Device(self.port, "finish").come(self.links["finish"], "Ben")

@@ -96,7 +96,8 @@ async function moveTo(name, race, number, sail) {
 async function swapWith(name, race, number, sail) {
   const other = await findBoat(name, text("scorer.swapWith", {sail: spaced(sail)}), finishersBut(race, sail));
   if (!other) return;
-  const needed = linesOfSwap(race, number, sail, other);
+  // Others may have been recorded while it was asked with whom.
+  const asItIs = raceNumbered(name, number), needed = linesOfSwap(isIn(asItIs, sail) && isIn(asItIs, other) ? asItIs : race, number, sail, other);
   if (needed.length) lines(name, needed);
   else say(text("scorer.areLevel", {one: spaced(sail), other: spaced(other)}));
 }

@@ -53,13 +53,16 @@ async function asked(name, number, race, finishers) {
     coded.length ? element("div", {class: "options"}, element("label", {}, codes, element("span", {},
       text("scorer.codesToo", {codes: coded.map(sail => [called(sail, name), ...heldBy(race, sail)].join(" "))})))) : null,
     element("label", {class: "field"}, text("scorer.belongTo"), field), rulingsThatStay(name, number, race, holding), rowsThatStay(name, number, race)], [cancel(), {value: "yes", label: text("scorer.putThem"), look: "main"}]);
-  const sails = finishers.slice(from.selectedIndex);
-  return done === "yes" ? {to: Number(field.value), sails, isAll: from.selectedIndex === 0, coded: codes.checked ? coded : []} : null;
+  if (done !== "yes") return null;
+  // Others may have finished meanwhile, and she may not be there any more.
+  const now = finishersOf(name, raceNumbered(name, number)), at = now.indexOf(from.value);
+  if (at < 0) say(text("finish.justMoved"), true);
+  return at < 0 ? null : {to: Number(field.value), sails: now.slice(at), isAll: at === 0, coded: codes.checked ? coded : []};
 }
 
 // Moves finishers to another race.
 export async function toOtherRace(name, number) {
-  const race = raceNumbered(name, number), found = await asked(name, number, race, finishersOf(name, race));
+  const shown = raceNumbered(name, number), found = await asked(name, number, shown, finishersOf(name, shown)), race = raceNumbered(name, number);
   if (!found || haveUnread(race, found)) return;
   const codes = linesOfCodes(race, number, found.to, [...found.sails, ...found.coded]);
   if (state(name).handicap) sheetToOther(name, number, race, found, codes);
