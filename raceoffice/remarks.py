@@ -72,6 +72,7 @@ ENGLISH: dict[str, str | tuple[str, str] | tuple[str, str, str]] = {
     "table-begin": "the table begins with {said}",
     "table-row": "the table has a row {said}",
     "table-explained": "the program explains another table",
+    "table-previewed": "the program's preview can't be read",
     "journal-entry": "the journal has an entry {said}",
     "office-denied": "this account may not open {path}",
     "office-unreached": "{path} can't be reached: {why}",

@@ -1,6 +1,6 @@
-"""What a document of `regatta preview` has to say, worked out beside the program: who moves between two journals, by
-the rules as `explained_by_rules` states them, and the text of each reply as a session writes it. It shares no code
-with the package or the program."""
+"""What a document of `regatta preview` has to say, worked out beside the program: who moves between two journals and
+whose scores change, by the rules as `explained_by_rules` states them, and the text of each reply as a session writes it.
+It shares no code with the package or the program."""
 from __future__ import annotations
 
 from typing import Any
@@ -21,6 +21,26 @@ def moves(rules: Rules, before: str, after: str) -> list[Document]:
     first = places(rules, before)
     return [{"sail": sail, "before": first.get(sail), "after": place} for sail, place in places(rules, after).items()
             if first.get(sail) != place]
+
+
+def scores(rules: Rules, journal: str) -> dict[str, dict[int, Document]]:
+    """Each boat's score in each race that counts after this journal."""
+    series = Series(rules, journal)
+    return {row.sail: {race: {"points": row.points[at], "mark": series.mark(race, row.sail), "excluded": row.dropped[at]}
+                       for at, race in enumerate(series.scored)} for _, _, row in series.table(series.scored)}
+
+
+def changes(rules: Rules, before: str, after: str) -> list[Document]:
+    """The boats whose rank, net or scores are others after the second journal than after the first, or who are new."""
+    first, was, now = places(rules, before), scores(rules, before), scores(rules, after)
+    found: list[Document] = []
+    for sail, place in places(rules, after).items():
+        if (first.get(sail), was.get(sail)) != (place, now[sail]):
+            old = was.get(sail, {})
+            found.append({"sail": sail, "before": first.get(sail), "after": place,
+                          "scores": [{"race": race, "before": old.get(race), "after": now[sail].get(race)}
+                                     for race in sorted({*old, *now[sail]})]})
+    return found
 
 
 def placed(boat: Document) -> str:

@@ -14,7 +14,7 @@ from typing import Any
 import helpers
 from explained_by_rules import Rules
 from helpers import ran, replayed
-from previewed_by_rules import moves, reply, without_sheets
+from previewed_by_rules import changes, moves, reply, without_sheets
 from test_explain import Dice, journal_of, words_of
 from test_program import DEVICE, failing, fits
 
@@ -49,9 +49,23 @@ WORKED = """\
 {"sail":"C","before":{"rank":3,"tied":false,"net":3.0},"after":{"rank":2,"tied":false,"net":2.0}},
 {"sail":"A","before":{"rank":1,"tied":false,"net":1.0},"after":{"rank":3,"tied":true,"net":5.0}},
 {"sail":"D","before":null,"after":{"rank":3,"tied":true,"net":5.0}}
+],
+"changes":[
+{"sail":"B","before":{"rank":2,"tied":false,"net":2.0},"after":{"rank":1,"tied":false,"net":1.0},"scores":[
+{"race":1,"before":{"points":2.0,"mark":null,"excluded":false},"after":{"points":1.0,"mark":null,"excluded":false}}
+]},
+{"sail":"C","before":{"rank":3,"tied":false,"net":3.0},"after":{"rank":2,"tied":false,"net":2.0},"scores":[
+{"race":1,"before":{"points":3.0,"mark":null,"excluded":false},"after":{"points":2.0,"mark":null,"excluded":false}}
+]},
+{"sail":"A","before":{"rank":1,"tied":false,"net":1.0},"after":{"rank":3,"tied":true,"net":5.0},"scores":[
+{"race":1,"before":{"points":1.0,"mark":null,"excluded":false},"after":{"points":5.0,"mark":"DSQ","excluded":false}}
+]},
+{"sail":"D","before":null,"after":{"rank":3,"tied":true,"net":5.0},"scores":[
+{"race":1,"before":null,"after":{"points":5.0,"mark":"DNC","excluded":false}}
+]}
 ]}
 """
-EMPTY = '{"role":"SCORER",\n"replies":[\n\n],\n"moves":[\n\n]}\n'
+EMPTY = '{"role":"SCORER",\n"replies":[\n\n],\n"moves":[\n\n],\n"changes":[\n\n]}\n'
 MOST = 1_048_576
 
 
@@ -117,6 +131,7 @@ class Previews(unittest.TestCase):
         self.assertEqual(text, WORKED)
         after = ONE_RACE + "1 8 JURY MARK 1 A DSQ\n1 9 SCORER ENTER D\n"
         self.assertEqual(whole["moves"], moves(Rules(), ONE_RACE, after))
+        self.assertEqual(whole["changes"], changes(Rules(), ONE_RACE, after))
 
     def test_nothing(self) -> None:
         """No line of nobody moves nobody."""
@@ -148,9 +163,33 @@ class Previews(unittest.TestCase):
                 whole = self.previewed(rules, journal, role, lines)[1]
                 after = "REGATTA 2\n" + self.sent(rules, journal, role, lines, "journal").rpartition("REGATTA 2\n")[2]
                 self.assertEqual(whole["moves"], moves(rules, journal, after))
+                self.assertEqual(whole["changes"], changes(rules, journal, after))
                 table = self.sent(rules, journal, role, lines, "table").rpartition("TABLE ")[0]
                 self.assertEqual([reply(row) for row in whole["replies"]], without_sheets(table))
                 self.assertEqual(whole["role"], role.upper())
+
+    def test_score_alone(self) -> None:
+        """A boat's excluded score gets its redress: it changes, and counts as excluded before and after. Neither her rank
+        nor her net moves, nor does any other boat (RRS A2.1)."""
+        journal = ONE_RACE + "".join(f"1 {at} SCORER {line}\n" for at, line in enumerate(
+            ["FINISH 2 B", "FINISH 2 A", "FINISH 2 C", "SCORE 2"], 8))
+        whole = self.previewed(Rules(), journal, "jury", "REDRESS 2 A 1.5\n")[1]
+        self.assertEqual([(one["sail"], one["before"]["net"], one["after"]["net"]) for one in whole["moves"]], [])
+        place = {"rank": 2, "tied": False, "net": 1}
+        self.assertEqual(whole["changes"], [{"sail": "A", "before": place, "after": place, "scores": [
+            {"race": 1, "before": {"points": 1, "mark": None, "excluded": False},
+             "after": {"points": 1, "mark": None, "excluded": False}},
+            {"race": 2, "before": {"points": 2, "mark": None, "excluded": True},
+             "after": {"points": Fraction(3, 2), "mark": "RDG", "excluded": True}}]}])
+
+    def test_other_races(self) -> None:
+        """A race that begins to count, and one that no longer does: each boat's score in it has no other side."""
+        journal = ONE_RACE + "1 8 SCORER FINISH 3 C\n"
+        whole = self.previewed(Rules(), journal, "scorer", "SCORE 3\nUNSCORE 1\n")[1]
+        self.assertEqual([one["sail"] for one in whole["changes"]], ["C", "A", "B"])
+        points = [[(score["race"], score["before"] and score["before"]["points"], score["after"] and score["after"]["points"])
+                   for score in one["scores"]] for one in whole["changes"]]
+        self.assertEqual(points, [[(1, 3, None), (3, None, 1)], [(1, 1, None), (3, None, 4)], [(1, 2, None), (3, None, 4)]])
 
     def test_session(self) -> None:
         """A client of an office who sends the same lines in that role gets the same replies."""

@@ -17,6 +17,7 @@ from raceoffice.decisions.held import Known, holdings, without_one
 from raceoffice.decisions.points import OUT, Decided, Verdict, decided, held_by, taken_out
 from raceoffice.errors import NotSent, Trouble
 from raceoffice.files import replace_whole
+from raceoffice.program.previewing import previewed
 from raceoffice.program.replay import Line, scored
 from raceoffice.program.standing import Standing
 from raceoffice.remarks import Remark, remark
@@ -24,7 +25,7 @@ from raceoffice.series.folder import Folder
 from raceoffice.series.run_program import options_in_force, replayed
 from raceoffice.series.settings import rows_of as lines_of
 from raceoffice.session.facts import Facts
-from raceoffice.web.states import Values, moves_of, remarks_of, rows_of
+from raceoffice.web.states import Values, moves_of, moves_shown, remarks_of, rows_shown
 
 # The line of decisions.txt that something is wrong with, and the most letters of a note.
 LINE = re.compile(r"^decisions\.txt, line (\d+): ")
@@ -55,19 +56,18 @@ def preview(folder: Folder, facts: Facts, lines: Sequence[Line]) -> Values:
     """Whom these lines would move; or why the program refuses them."""
     entries = len(facts.sheet.journal)
     try:
-        after = scored(folder.program, options_in_force(folder), facts.sheet.journal, lines)
+        found = previewed(folder.program, options_in_force(folder), facts.sheet.journal, lines)
     except Trouble as trouble:
         return {"refused": remarks_of(trouble.said), "entries": entries}
-    standing = Standing.read(list(after.table))
     return {"entries": entries, "lines": [f"{line.role} {line}" for line in lines],
-            "moves": moves_of(facts.standing, standing, facts), "rows": rows_of(standing),
+            "moves": moves_shown(found.changes, facts), "rows": rows_shown(found.rows_after(facts.standing)),
             "counts": any(race in facts.standing.races for race in map(race_of, lines))}
 
 
 def why_refused(folder: Folder, facts: Facts, lines: Sequence[Line]) -> Sequence[str]:
     """Why the program would refuse one of these lines; empty if it takes them all."""
     try:
-        scored(folder.program, options_in_force(folder), facts.sheet.journal, lines)
+        previewed(folder.program, options_in_force(folder), facts.sheet.journal, lines)
     except Trouble as trouble:
         return trouble.said
     return ()

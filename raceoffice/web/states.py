@@ -5,7 +5,7 @@ from collections.abc import Iterable, Mapping, Sequence
 
 from raceoffice.program.journal import Race
 from raceoffice.program.messages import moved
-from raceoffice.program.standing import Standing, changes
+from raceoffice.program.standing import Change, Row, Standing, changes
 from raceoffice.remarks import Remark, Value
 from raceoffice.series.settings import Settings
 from raceoffice.series.unknown_finishers import Waiting
@@ -58,23 +58,25 @@ def rules_of(settings: Settings) -> Values:
             "handicap": settings.handicap}
 
 
-def rows_of(standing: Standing) -> list[Values]:
+def rows_shown(rows: Iterable[Row]) -> list[Values]:
     return [{"rank": row.rank, "shared": row.shared, "sail": row.sail, "net": row.net,
-             "scores": [[score.points, score.code, score.excluded] for score in row.scores]}
-            for row in standing.rows]
+             "scores": [[score.points, score.code, score.excluded] for score in row.scores]} for row in rows]
 
 
 def standing_of(standing: Standing) -> Values:
-    return {"races": standing.races, "rows": rows_of(standing)}
+    return {"races": standing.races, "rows": rows_shown(standing.rows)}
 
 
 def moves_of(before: Standing, after: Standing, facts: Facts) -> list[Values]:
     """Whose scores moved from one table to another, in the words of the typing window."""
-    if not before.races and not after.races:
-        return []
+    return moves_shown(changes(before, after), facts) if before.races or after.races else []
+
+
+def moves_shown(found: Iterable[Change], facts: Facts) -> list[Values]:
+    """How boats move, in the words of the typing window."""
     return [{"sail": change.after.sail, "was": change.before.rank, "rank": change.after.rank,
              "net_before": change.before.net, "net": change.after.net,
-             "words": moved(change, facts.called(change.after.sail))} for change in changes(before, after)]
+             "words": moved(change, facts.called(change.after.sail))} for change in found]
 
 
 def remarks_of(said: Iterable[str]) -> list[Values]:

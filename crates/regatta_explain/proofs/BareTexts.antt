@@ -7,7 +7,8 @@ use borrow.Author.Tests.{eqb-true}
 use Rattle.regatta_explain.specs.declared.parts.HeldPart.{HeldPart}
 use Rattle.regatta_explain.specs.declared.parts.ScorePart.{ScorePart}
 use Rattle.regatta_explain.specs.Made.{has_no_redress, holdings_text, is_bare}
-use Rattle.regatta_explain.specs.Rows.{average_text, code_value, number_value, penalties_text}
+use Rattle.regatta_json.specs.Fields.{number_value}
+use Rattle.regatta_explain.specs.Rows.{average_text, code_value, penalties_text}
 use Rattle.regatta_explain.specs.Rows.{redress_text, redress_value}
 
 -- what a test finds to be nothing is nothing

@@ -1,7 +1,6 @@
 pub mod BareTexts
 pub mod RowFacts
 pub mod SumFacts
-pub mod TwoPieces
 pub mod Unlike
 pub mod UpTo
 pub mod Zips

@@ -5,7 +5,8 @@ use Rattle.regatta_explain.specs.declared.parts.BoatRows.{BoatRows}
 use Rattle.regatta_explain.specs.declared.parts.Document.{Document}
 use Rattle.regatta_explain.specs.declared.parts.RaceRows.{RaceRows}
 use Rattle.regatta_explain.specs.declared.parts.RanksAfter.{RanksAfter}
-use Rattle.regatta_explain.specs.Rows.{boat_text, field, group_text, held_text, neighbour_text}
+use Rattle.regatta_json.specs.Fields.{field}
+use Rattle.regatta_explain.specs.Rows.{boat_text, group_text, held_text, neighbour_text}
 use Rattle.regatta_explain.specs.Rows.{race_text, rank_text, rules_text, score_text}
 
 -- what a race is scored by, and its groups

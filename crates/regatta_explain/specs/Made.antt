@@ -24,7 +24,8 @@ use Rattle.regatta_explain.specs.declared.parts.ScorePart.{ScorePart}
 use Rattle.regatta_explain.specs.Averaged.{counted, counted_races, counted_sum}
 use Rattle.regatta_explain.specs.Explained.{group_part}
 use Rattle.regatta_json.specs.Rows.{flag_text}
-use Rattle.regatta_explain.specs.Rows.{field, mark_value, penalties_text, redress_text}
+use Rattle.regatta_json.specs.Fields.{field, mark_value}
+use Rattle.regatta_explain.specs.Rows.{penalties_text, redress_text}
 use Rattle.regatta_explain.specs.Separations.{separation}
 
 -- a group that the board gives

@@ -1,5 +1,5 @@
 -- The rows of the document.
-use Rattle.std.specs.Prelude.{ℕ, List, [], ◌∷◌, ◌++◌, codes, decimal, Option, Some, None}
+use Rattle.std.specs.Prelude.{ℕ, List, ◌++◌, codes, decimal, Option, Some, None}
 use Rattle.regatta_terms.specs.declared.command.Code.{Code}
 use Rattle.regatta_terms.specs.declared.command.Redress as redress_type
 use Rattle.regatta_terms.specs.declared.command.Redress.TheVariants.{Points, AllRaces, RacesBefore}
@@ -7,9 +7,8 @@ use Rattle.regatta_terms.specs.declared.rules.Absent.{Absent}
 use Rattle.regatta_terms.specs.declared.rules.Absent.TheVariants.{A52, A53}
 use Rattle.regatta_terms.specs.Codes.{code_text}
 use Rattle.regatta_terms.specs.Entries.{points_text}
-use Rattle.regatta_scores.specs.declared.table.Abbrev.{Abbrev}
-use Rattle.regatta_scores.specs.Abbreviations.{abbrev_text}
-use Rattle.regatta_json.specs.Rows.{flag_text, joined, values}
+use Rattle.regatta_json.specs.Fields.{field, mark_value, number_value, quoted}
+use Rattle.regatta_json.specs.Rows.{flag_text, values}
 use Rattle.regatta_explain.specs.declared.parts.RulesPart.{RulesPart}
 use Rattle.regatta_explain.specs.declared.parts.GroupPart.{GroupPart}
 use Rattle.regatta_explain.specs.declared.parts.HeldPart.{HeldPart}
@@ -24,14 +23,6 @@ use Rattle.regatta_explain.specs.declared.parts.RankPart.{RankPart}
 
 -- ---- values
 
--- a name, and the value that follows it
-abbrev pub field : List ℕ → List ℕ → List ℕ
-field name value = name ++ value
-
--- a sail as a string
-unfoldable pub quoted : List ℕ → List ℕ
-quoted sail = joined (codes "\"" ∷ sail ∷ codes "\"" ∷ [])
-
 -- a code by which a boat is scored, or FIN if she finished
 abbrev pub status_word : Option Code → List ℕ
 status_word None = codes "FIN"
@@ -41,16 +32,6 @@ status_word (Some code) = code_text code
 unfoldable pub code_value : Option Code → List ℕ
 code_value None = codes "null"
 code_value (Some code) = quoted (code_text code)
-
--- an abbreviation, or null
-unfoldable pub mark_value : Option Abbrev → List ℕ
-mark_value None = codes "null"
-mark_value (Some mark) = quoted (abbrev_text mark)
-
--- a number, or null
-unfoldable pub number_value : Option ℕ → List ℕ
-number_value None = codes "null"
-number_value (Some number) = decimal number
 
 -- redress as points, or as ALL or PRIOR for an average
 unfoldable pub given_value : redress_type.Redress → List ℕ

@@ -12,7 +12,8 @@ use Rattle.regatta_explain.specs.Explained.{ranks_after, score_part, score_parts
 use Rattle.regatta_explain.specs.Documents.{document_text, head_text, races_text, boats_text}
 use Rattle.regatta_explain.specs.Documents.{neighbours_text, after_text, race_rows, race_groups, race_boats}
 use Rattle.regatta_explain.specs.Documents.{boat_rows, after_row}
-use Rattle.regatta_explain.specs.Rows.{quoted, code_value, mark_value, number_value, given_value, redress_value}
+use Rattle.regatta_json.specs.Fields.{mark_value, number_value, quoted}
+use Rattle.regatta_explain.specs.Rows.{code_value, given_value, redress_value}
 use Rattle.regatta_explain.specs.Rows.{rules_text, group_text, status_text, penalties_text, redress_text}
 use Rattle.regatta_explain.specs.Rows.{held_text, race_head, race_scores_text, race_text, base_text}
 use Rattle.regatta_explain.specs.Rows.{average_text, points_part, score_text, boat_text, compared_text}

@@ -1,26 +1,23 @@
 //! Rows of boats, and of their scores.
 
-ghost use Rattle.std.specs.Prelude.{◌≡◌, ◌≤◌, ◌<◌, ◌++◌, ◌+◌, take, length, vec_len};
-ghost use Rattle.std.specs.Prelude.{vec_capacity, IfSome, OnOk, OnErr};
+ghost use Rattle.std.specs.Prelude.{◌≡◌, IfSome};
+ghost use Rattle.regatta_json.specs.Pushed.{Pushed};
 ghost use Rattle.regatta_explain.specs.Made.{has_no_redress as has_no_redress_by, mark_text};
 ghost use Rattle.regatta_explain.specs.Rows.{base_text, average_text, points_part, score_text};
 ghost use Rattle.regatta_explain.specs.Rows.{boat_text};
 
-use crate::fields::{
-    push_count, push_flag, push_mark, push_number, push_points, push_race_no, push_races,
-    push_redress, push_status, push_tenths, push_text, push_word,
-};
+use crate::fields::{push_races, push_redress, push_status};
 use crate::parts::{BoatPart, ScorePart};
-use regatta_json::push_pieces;
+use regatta_json::{
+    push_count, push_flag, push_mark, push_number, push_pieces, push_points, push_race_no,
+    push_tenths, push_text, push_word,
+};
 use std::alloc::AllocError;
 
 /// Appends a boat's score before redress.
 #[tactic(auto, unfolding(crate::specs::Rows::base_text))]
 fn push_base(part: &ScorePart, out: &mut Vec<u8>) -> Result<(), AllocError>
-    ensures ok { OnOk result (out.new.items ≡ out.old.items ++ base_text part.now) }
-    ensures err { OnErr result (take (vec_len out.old) out.new.items ≡ out.old.items) }
-    ensures room { vec_capacity out.old ≤ vec_capacity out.new }
-    ensures full { OnErr result (vec_capacity out.old < vec_len out.old + length (base_text part.now)) }
+    ensures { Pushed (base_text part.now) out.old out.new result }
 {
     push_race_no(b"{\"race\":", part.race, out)?;
     push_status(b",\"status\":\"", part.status, out)?;
@@ -33,10 +30,7 @@ fn push_base(part: &ScorePart, out: &mut Vec<u8>) -> Result<(), AllocError>
 /// Appends her redress, and the scores that an average counts, one after another.
 #[tactic(auto, unfolding(crate::specs::Rows::average_text))]
 fn push_each_average(part: &ScorePart, out: &mut Vec<u8>) -> Result<(), AllocError>
-    ensures ok { OnOk result (out.new.items ≡ out.old.items ++ (average_text part.now)) }
-    ensures err { OnErr result (take (vec_len out.old) out.new.items ≡ out.old.items) }
-    ensures room { vec_capacity out.old ≤ vec_capacity out.new }
-    ensures full { OnErr result (vec_capacity out.old < vec_len out.old + length (average_text part.now)) }
+    ensures { Pushed (average_text part.now) out.old out.new result }
 {
     push_redress(b",\"redress\":", part.redress, out)?;
     push_pieces(out, &[b",\"averaged\":["])?;
@@ -66,10 +60,7 @@ fn bare_average(part: &ScorePart) -> Option<&'static [u8]>
 /// Appends her redress, and the scores that an average counts.
 // Most boats have none.
 fn push_average(part: &ScorePart, out: &mut Vec<u8>) -> Result<(), AllocError>
-    ensures ok { OnOk result (out.new.items ≡ out.old.items ++ (average_text part.now)) }
-    ensures err { OnErr result (take (vec_len out.old) out.new.items ≡ out.old.items) }
-    ensures room { vec_capacity out.old ≤ vec_capacity out.new }
-    ensures full { OnErr result (vec_capacity out.old < vec_len out.old + length (average_text part.now)) }
+    ensures { Pushed (average_text part.now) out.old out.new result }
 {
     match bare_average(part) {
         Some(text) => push_text(text, out),
@@ -80,10 +71,7 @@ fn push_average(part: &ScorePart, out: &mut Vec<u8>) -> Result<(), AllocError>
 /// Appends her abbreviation, and whether the score is excluded, one after another.
 #[tactic(auto, unfolding(crate::specs::Made::mark_text))]
 fn push_each_mark(part: &ScorePart, out: &mut Vec<u8>) -> Result<(), AllocError>
-    ensures ok { OnOk result (out.new.items ≡ out.old.items ++ (mark_text part.now)) }
-    ensures err { OnErr result (take (vec_len out.old) out.new.items ≡ out.old.items) }
-    ensures room { vec_capacity out.old ≤ vec_capacity out.new }
-    ensures full { OnErr result (vec_capacity out.old < vec_len out.old + length (mark_text part.now)) }
+    ensures { Pushed (mark_text part.now) out.old out.new result }
 {
     push_mark(b",\"mark\":", part.mark, out)?;
     push_flag(b",\"excluded\":", part.excluded, out)?;
@@ -92,7 +80,7 @@ fn push_each_mark(part: &ScorePart, out: &mut Vec<u8>) -> Result<(), AllocError>
 }
 
 /// The text of no abbreviation, if there is none, and of whether the score is excluded.
-#[tactic(auto, unfolding(crate::specs::Made::mark_text, crate::specs::Rows::mark_value))]
+#[tactic(auto, unfolding(crate::specs::Made::mark_text, regatta_json::specs::Fields::mark_value))]
 fn bare_mark(part: &ScorePart) -> Option<&'static [u8]>
     ensures { IfSome result (λ text. text.now ≡ mark_text part.now) }
 {
@@ -106,10 +94,7 @@ fn bare_mark(part: &ScorePart) -> Option<&'static [u8]>
 /// Appends her abbreviation, and whether the score is excluded.
 // Most scores have no abbreviation.
 fn push_last(part: &ScorePart, out: &mut Vec<u8>) -> Result<(), AllocError>
-    ensures ok { OnOk result (out.new.items ≡ out.old.items ++ (mark_text part.now)) }
-    ensures err { OnErr result (take (vec_len out.old) out.new.items ≡ out.old.items) }
-    ensures room { vec_capacity out.old ≤ vec_capacity out.new }
-    ensures full { OnErr result (vec_capacity out.old < vec_len out.old + length (mark_text part.now)) }
+    ensures { Pushed (mark_text part.now) out.old out.new result }
 {
     match bare_mark(part) {
         Some(text) => push_text(text, out),
@@ -120,10 +105,7 @@ fn push_last(part: &ScorePart, out: &mut Vec<u8>) -> Result<(), AllocError>
 /// Appends her points.
 #[tactic(auto, unfolding(crate::specs::Rows::points_part, crate::specs::Made::mark_text))]
 fn push_result(part: &ScorePart, out: &mut Vec<u8>) -> Result<(), AllocError>
-    ensures ok { OnOk result (out.new.items ≡ out.old.items ++ (points_part part.now)) }
-    ensures err { OnErr result (take (vec_len out.old) out.new.items ≡ out.old.items) }
-    ensures room { vec_capacity out.old ≤ vec_capacity out.new }
-    ensures full { OnErr result (vec_capacity out.old < vec_len out.old + length (points_part part.now)) }
+    ensures { Pushed (points_part part.now) out.old out.new result }
 {
     push_tenths(b",\"points\":", part.points, out)?;
     push_last(part, out)?;
@@ -133,10 +115,7 @@ fn push_result(part: &ScorePart, out: &mut Vec<u8>) -> Result<(), AllocError>
 /// Appends the row of a boat's score in a race.
 #[tactic(auto, unfolding(crate::specs::Rows::score_text))]
 pub(crate) fn push_score(part: &ScorePart, out: &mut Vec<u8>) -> Result<(), AllocError>
-    ensures ok { OnOk result (out.new.items ≡ out.old.items ++ score_text part.now) }
-    ensures err { OnErr result (take (vec_len out.old) out.new.items ≡ out.old.items) }
-    ensures room { vec_capacity out.old ≤ vec_capacity out.new }
-    ensures full { OnErr result (vec_capacity out.old < vec_len out.old + length (score_text part.now)) }
+    ensures { Pushed (score_text part.now) out.old out.new result }
 {
     push_base(part, out)?;
     push_average(part, out)?;
@@ -147,10 +126,7 @@ pub(crate) fn push_score(part: &ScorePart, out: &mut Vec<u8>) -> Result<(), Allo
 /// Appends a boat's place in the series.
 #[tactic(auto, unfolding(crate::specs::Rows::boat_text))]
 pub(crate) fn push_boat(part: &BoatPart, out: &mut Vec<u8>) -> Result<(), AllocError>
-    ensures ok { OnOk result (out.new.items ≡ out.old.items ++ boat_text part.now) }
-    ensures err { OnErr result (take (vec_len out.old) out.new.items ≡ out.old.items) }
-    ensures room { vec_capacity out.old ≤ vec_capacity out.new }
-    ensures full { OnErr result (vec_capacity out.old < vec_len out.old + length (boat_text part.now)) }
+    ensures { Pushed (boat_text part.now) out.old out.new result }
 {
     push_word(b"{\"sail\":\"", part.sail.as_bytes(), out)?;
     push_count(b"\",\"rank\":", part.rank, out)?;

@@ -1,7 +1,6 @@
 //! The whole document.
 
-ghost use Rattle.std.specs.Prelude.{◌≡◌, ◌≤◌, ◌<◌, ◌++◌, ◌+◌, take, length, vec_len};
-ghost use Rattle.std.specs.Prelude.{vec_capacity, IsOk, OnOk, OnErr};
+ghost use Rattle.regatta_json.specs.Pushed.{Pushed, Written};
 ghost use Rattle.regatta_json.specs.Rows.{rows, values};
 ghost use Rattle.regatta_explain.specs.Rows.{group_text, held_text, score_text, neighbour_text};
 ghost use Rattle.regatta_explain.specs.Rows.{rank_text};
@@ -10,7 +9,6 @@ ghost use Rattle.regatta_explain.specs.Documents.{after_row, head_text, races_te
 ghost use Rattle.regatta_explain.specs.Documents.{neighbours_text, after_text, document_text};
 
 use crate::boats::{push_boat, push_score};
-use crate::fields::{push_number, push_race_no};
 use crate::parts::{
     BoatRows, Document, GroupPart, HeldPart, NeighbourPart, RaceRows, RankPart, RanksAfter,
     ScorePart,
@@ -18,7 +16,9 @@ use crate::parts::{
 use crate::races::{push_group, push_held, push_race};
 use crate::series::push_rules;
 use crate::ties::{push_neighbour, push_rank};
-use regatta_json::{ItemWriter, push_pieces, push_rows, push_values, settle};
+use regatta_json::{
+    ItemWriter, push_number, push_pieces, push_race_no, push_rows, push_values, settle,
+};
 use regatta_scores::Items;
 use std::alloc::AllocError;
 
@@ -29,11 +29,7 @@ use std::alloc::AllocError;
 /// `AllocError` if an allocation fails, and never if `out` has room for the text. After an error
 /// `out` has its old contents; its capacity is never less.
 pub fn write_document(document: &Document, out: &mut Vec<u8>) -> Result<(), AllocError>
-    ensures ok { OnOk result (out.new.items ≡ out.old.items ++ document_text document.now) }
-    ensures err { OnErr result (out.new.items ≡ out.old.items) }
-    ensures room { vec_capacity out.old ≤ vec_capacity out.new }
-    ensures fits { vec_len out.old + length (document_text document.now) ≤ vec_capacity out.old
-        → IsOk result }
+    ensures { Written (document_text document.now) out.old out.new result }
 {
     let start = out.len();
     let pushed = push_document(document, out);
@@ -43,10 +39,7 @@ pub fn write_document(document: &Document, out: &mut Vec<u8>) -> Result<(), Allo
 /// Appends the same text, but an `Err` leaves some first part of it.
 #[tactic(auto, unfolding(crate::specs::Documents::document_text))]
 fn push_document(document: &Document, out: &mut Vec<u8>) -> Result<(), AllocError>
-    ensures ok { OnOk result (out.new.items ≡ out.old.items ++ (document_text document.now)) }
-    ensures err { OnErr result (take (vec_len out.old) out.new.items ≡ out.old.items) }
-    ensures room { vec_capacity out.old ≤ vec_capacity out.new }
-    ensures full { OnErr result (vec_capacity out.old < vec_len out.old + length (document_text document.now)) }
+    ensures { Pushed (document_text document.now) out.old out.new result }
 {
     push_head(document, out)?;
     push_races(document, out)?;
@@ -59,10 +52,7 @@ fn push_document(document: &Document, out: &mut Vec<u8>) -> Result<(), AllocErro
 /// Appends the rules, and the last entry on which the table depends.
 #[tactic(auto, unfolding(crate::specs::Documents::head_text))]
 fn push_head(document: &Document, out: &mut Vec<u8>) -> Result<(), AllocError>
-    ensures ok { OnOk result (out.new.items ≡ out.old.items ++ (head_text document.now)) }
-    ensures err { OnErr result (take (vec_len out.old) out.new.items ≡ out.old.items) }
-    ensures room { vec_capacity out.old ≤ vec_capacity out.new }
-    ensures full { OnErr result (vec_capacity out.old < vec_len out.old + length (head_text document.now)) }
+    ensures { Pushed (head_text document.now) out.old out.new result }
 {
     push_pieces(out, &[b"{\"rules\":"])?;
     push_rules(&document.rules, out)?;
@@ -73,10 +63,7 @@ fn push_head(document: &Document, out: &mut Vec<u8>) -> Result<(), AllocError>
 /// Appends the races of which something is recorded.
 #[tactic(auto, unfolding(crate::specs::Documents::races_text))]
 fn push_races(document: &Document, out: &mut Vec<u8>) -> Result<(), AllocError>
-    ensures ok { OnOk result (out.new.items ≡ out.old.items ++ (races_text document.now)) }
-    ensures err { OnErr result (take (vec_len out.old) out.new.items ≡ out.old.items) }
-    ensures room { vec_capacity out.old ≤ vec_capacity out.new }
-    ensures full { OnErr result (vec_capacity out.old < vec_len out.old + length (races_text document.now)) }
+    ensures { Pushed (races_text document.now) out.old out.new result }
 {
     push_pieces(out, &[b",\n\"races\":[\n"])?;
     push_all_races(&document.races, out)?;
@@ -86,10 +73,7 @@ fn push_races(document: &Document, out: &mut Vec<u8>) -> Result<(), AllocError>
 /// Appends the boats in the order of the table.
 #[tactic(auto, unfolding(crate::specs::Documents::boats_text))]
 fn push_boats(document: &Document, out: &mut Vec<u8>) -> Result<(), AllocError>
-    ensures ok { OnOk result (out.new.items ≡ out.old.items ++ (boats_text document.now)) }
-    ensures err { OnErr result (take (vec_len out.old) out.new.items ≡ out.old.items) }
-    ensures room { vec_capacity out.old ≤ vec_capacity out.new }
-    ensures full { OnErr result (vec_capacity out.old < vec_len out.old + length (boats_text document.now)) }
+    ensures { Pushed (boats_text document.now) out.old out.new result }
 {
     push_pieces(out, &[b"\n],\n\"boats\":[\n"])?;
     push_all_boats(&document.boats, out)?;
@@ -99,10 +83,7 @@ fn push_boats(document: &Document, out: &mut Vec<u8>) -> Result<(), AllocError>
 /// Appends neighbours with the same series score.
 #[tactic(auto, unfolding(crate::specs::Documents::neighbours_text))]
 fn push_neighbours(document: &Document, out: &mut Vec<u8>) -> Result<(), AllocError>
-    ensures ok { OnOk result (out.new.items ≡ out.old.items ++ (neighbours_text document.now)) }
-    ensures err { OnErr result (take (vec_len out.old) out.new.items ≡ out.old.items) }
-    ensures room { vec_capacity out.old ≤ vec_capacity out.new }
-    ensures full { OnErr result (vec_capacity out.old < vec_len out.old + length (neighbours_text document.now)) }
+    ensures { Pushed (neighbours_text document.now) out.old out.new result }
 {
     push_pieces(out, &[b"\n],\n\"neighbours\":[\n"])?;
     push_all_neighbours(&document.neighbours, out)?;
@@ -112,10 +93,7 @@ fn push_neighbours(document: &Document, out: &mut Vec<u8>) -> Result<(), AllocEr
 /// Appends ranks after each race that counts.
 #[tactic(auto, unfolding(crate::specs::Documents::after_text))]
 fn push_after(document: &Document, out: &mut Vec<u8>) -> Result<(), AllocError>
-    ensures ok { OnOk result (out.new.items ≡ out.old.items ++ (after_text document.now)) }
-    ensures err { OnErr result (take (vec_len out.old) out.new.items ≡ out.old.items) }
-    ensures room { vec_capacity out.old ≤ vec_capacity out.new }
-    ensures full { OnErr result (vec_capacity out.old < vec_len out.old + length (after_text document.now)) }
+    ensures { Pushed (after_text document.now) out.old out.new result }
 {
     push_pieces(out, &[b"\n],\n\"after_each\":[\n"])?;
     push_all_ranks(&document.after_each, out)?;
@@ -126,10 +104,7 @@ fn push_after(document: &Document, out: &mut Vec<u8>) -> Result<(), AllocError>
 /// Appends the rows of a race.
 #[tactic(auto, unfolding(crate::specs::Documents::race_rows))]
 fn push_race_rows(race: &RaceRows, out: &mut Vec<u8>) -> Result<(), AllocError>
-    ensures ok { OnOk result (out.new.items ≡ out.old.items ++ (race_rows race.now)) }
-    ensures err { OnErr result (take (vec_len out.old) out.new.items ≡ out.old.items) }
-    ensures room { vec_capacity out.old ≤ vec_capacity out.new }
-    ensures full { OnErr result (vec_capacity out.old < vec_len out.old + length (race_rows race.now)) }
+    ensures { Pushed (race_rows race.now) out.old out.new result }
 {
     push_race_groups(race, out)?;
     push_race_boats(race, out)?;
@@ -139,10 +114,7 @@ fn push_race_rows(race: &RaceRows, out: &mut Vec<u8>) -> Result<(), AllocError>
 /// Appends what a race is scored by, and its groups.
 #[tactic(auto, unfolding(crate::specs::Documents::race_groups))]
 fn push_race_groups(race: &RaceRows, out: &mut Vec<u8>) -> Result<(), AllocError>
-    ensures ok { OnOk result (out.new.items ≡ out.old.items ++ (race_groups race.now)) }
-    ensures err { OnErr result (take (vec_len out.old) out.new.items ≡ out.old.items) }
-    ensures room { vec_capacity out.old ≤ vec_capacity out.new }
-    ensures full { OnErr result (vec_capacity out.old < vec_len out.old + length (race_groups race.now)) }
+    ensures { Pushed (race_groups race.now) out.old out.new result }
 {
     push_race(&race.race, out)?;
     push_pieces(out, &[b",\"groups\":[\n"])?;
@@ -154,10 +126,7 @@ fn push_race_groups(race: &RaceRows, out: &mut Vec<u8>) -> Result<(), AllocError
 /// Appends what each boat has in a race.
 #[tactic(auto, unfolding(crate::specs::Documents::race_boats))]
 fn push_race_boats(race: &RaceRows, out: &mut Vec<u8>) -> Result<(), AllocError>
-    ensures ok { OnOk result (out.new.items ≡ out.old.items ++ (race_boats race.now)) }
-    ensures err { OnErr result (take (vec_len out.old) out.new.items ≡ out.old.items) }
-    ensures room { vec_capacity out.old ≤ vec_capacity out.new }
-    ensures full { OnErr result (vec_capacity out.old < vec_len out.old + length (race_boats race.now)) }
+    ensures { Pushed (race_boats race.now) out.old out.new result }
 {
     push_all_held(&race.boats, out)?;
     push_pieces(out, &[b"\n]}"])?;
@@ -167,10 +136,7 @@ fn push_race_boats(race: &RaceRows, out: &mut Vec<u8>) -> Result<(), AllocError>
 /// Appends the rows of a boat.
 #[tactic(auto, unfolding(crate::specs::Documents::boat_rows))]
 fn push_boat_rows(boat: &BoatRows, out: &mut Vec<u8>) -> Result<(), AllocError>
-    ensures ok { OnOk result (out.new.items ≡ out.old.items ++ (boat_rows boat.now)) }
-    ensures err { OnErr result (take (vec_len out.old) out.new.items ≡ out.old.items) }
-    ensures room { vec_capacity out.old ≤ vec_capacity out.new }
-    ensures full { OnErr result (vec_capacity out.old < vec_len out.old + length (boat_rows boat.now)) }
+    ensures { Pushed (boat_rows boat.now) out.old out.new result }
 {
     push_boat(&boat.boat, out)?;
     push_pieces(out, &[b",\"scores\":[\n"])?;
@@ -182,10 +148,7 @@ fn push_boat_rows(boat: &BoatRows, out: &mut Vec<u8>) -> Result<(), AllocError>
 /// Appends the ranks after a race that counts.
 #[tactic(auto, unfolding(crate::specs::Documents::after_row))]
 fn push_after_row(after: &RanksAfter, out: &mut Vec<u8>) -> Result<(), AllocError>
-    ensures ok { OnOk result (out.new.items ≡ out.old.items ++ (after_row after.now)) }
-    ensures err { OnErr result (take (vec_len out.old) out.new.items ≡ out.old.items) }
-    ensures room { vec_capacity out.old ≤ vec_capacity out.new }
-    ensures full { OnErr result (vec_capacity out.old < vec_len out.old + length (after_row after.now)) }
+    ensures { Pushed (after_row after.now) out.old out.new result }
 {
     push_race_no(b"{\"race\":", after.race, out)?;
     push_pieces(out, &[b",\"ranks\":["])?;
@@ -209,10 +172,7 @@ impl ItemWriter<GroupPart> for Groups {
 
 /// Appends groups as rows.
 fn push_groups(items: &Items<GroupPart>, out: &mut Vec<u8>) -> Result<(), AllocError>
-    ensures ok { OnOk result (out.new.items ≡ out.old.items ++ (rows group_text items.now)) }
-    ensures err { OnErr result (take (vec_len out.old) out.new.items ≡ out.old.items) }
-    ensures room { vec_capacity out.old ≤ vec_capacity out.new }
-    ensures full { OnErr result (vec_capacity out.old < vec_len out.old + length (rows group_text items.now)) }
+    ensures { Pushed (rows group_text items.now) out.old out.new result }
 {
     push_rows(&Groups, items.as_slice(), out)
 }
@@ -232,10 +192,7 @@ impl ItemWriter<HeldPart> for AllHeld {
 
 /// Appends what boats have in a race, as rows.
 fn push_all_held(items: &Items<HeldPart>, out: &mut Vec<u8>) -> Result<(), AllocError>
-    ensures ok { OnOk result (out.new.items ≡ out.old.items ++ (rows held_text items.now)) }
-    ensures err { OnErr result (take (vec_len out.old) out.new.items ≡ out.old.items) }
-    ensures room { vec_capacity out.old ≤ vec_capacity out.new }
-    ensures full { OnErr result (vec_capacity out.old < vec_len out.old + length (rows held_text items.now)) }
+    ensures { Pushed (rows held_text items.now) out.old out.new result }
 {
     push_rows(&AllHeld, items.as_slice(), out)
 }
@@ -255,10 +212,7 @@ impl ItemWriter<ScorePart> for Scores {
 
 /// Appends scores as rows.
 fn push_scores(items: &Items<ScorePart>, out: &mut Vec<u8>) -> Result<(), AllocError>
-    ensures ok { OnOk result (out.new.items ≡ out.old.items ++ (rows score_text items.now)) }
-    ensures err { OnErr result (take (vec_len out.old) out.new.items ≡ out.old.items) }
-    ensures room { vec_capacity out.old ≤ vec_capacity out.new }
-    ensures full { OnErr result (vec_capacity out.old < vec_len out.old + length (rows score_text items.now)) }
+    ensures { Pushed (rows score_text items.now) out.old out.new result }
 {
     push_rows(&Scores, items.as_slice(), out)
 }
@@ -278,10 +232,7 @@ impl ItemWriter<RankPart> for Ranks {
 
 /// Appends ranks as values.
 fn push_ranks(items: &Items<RankPart>, out: &mut Vec<u8>) -> Result<(), AllocError>
-    ensures ok { OnOk result (out.new.items ≡ out.old.items ++ (values rank_text items.now)) }
-    ensures err { OnErr result (take (vec_len out.old) out.new.items ≡ out.old.items) }
-    ensures room { vec_capacity out.old ≤ vec_capacity out.new }
-    ensures full { OnErr result (vec_capacity out.old < vec_len out.old + length (values rank_text items.now)) }
+    ensures { Pushed (values rank_text items.now) out.old out.new result }
 {
     push_values(&Ranks, items.as_slice(), out)
 }
@@ -301,10 +252,7 @@ impl ItemWriter<RaceRows> for Races {
 
 /// Appends races as rows.
 fn push_all_races(items: &Items<RaceRows>, out: &mut Vec<u8>) -> Result<(), AllocError>
-    ensures ok { OnOk result (out.new.items ≡ out.old.items ++ (rows race_rows items.now)) }
-    ensures err { OnErr result (take (vec_len out.old) out.new.items ≡ out.old.items) }
-    ensures room { vec_capacity out.old ≤ vec_capacity out.new }
-    ensures full { OnErr result (vec_capacity out.old < vec_len out.old + length (rows race_rows items.now)) }
+    ensures { Pushed (rows race_rows items.now) out.old out.new result }
 {
     push_rows(&Races, items.as_slice(), out)
 }
@@ -324,10 +272,7 @@ impl ItemWriter<BoatRows> for Boats {
 
 /// Appends boats as rows.
 fn push_all_boats(items: &Items<BoatRows>, out: &mut Vec<u8>) -> Result<(), AllocError>
-    ensures ok { OnOk result (out.new.items ≡ out.old.items ++ (rows boat_rows items.now)) }
-    ensures err { OnErr result (take (vec_len out.old) out.new.items ≡ out.old.items) }
-    ensures room { vec_capacity out.old ≤ vec_capacity out.new }
-    ensures full { OnErr result (vec_capacity out.old < vec_len out.old + length (rows boat_rows items.now)) }
+    ensures { Pushed (rows boat_rows items.now) out.old out.new result }
 {
     push_rows(&Boats, items.as_slice(), out)
 }
@@ -347,10 +292,7 @@ impl ItemWriter<NeighbourPart> for Neighbours {
 
 /// Appends neighbours as rows.
 fn push_all_neighbours(items: &Items<NeighbourPart>, out: &mut Vec<u8>) -> Result<(), AllocError>
-    ensures ok { OnOk result (out.new.items ≡ out.old.items ++ (rows neighbour_text items.now)) }
-    ensures err { OnErr result (take (vec_len out.old) out.new.items ≡ out.old.items) }
-    ensures room { vec_capacity out.old ≤ vec_capacity out.new }
-    ensures full { OnErr result (vec_capacity out.old < vec_len out.old + length (rows neighbour_text items.now)) }
+    ensures { Pushed (rows neighbour_text items.now) out.old out.new result }
 {
     push_rows(&Neighbours, items.as_slice(), out)
 }
@@ -370,10 +312,7 @@ impl ItemWriter<RanksAfter> for AllRanks {
 
 /// Appends ranks after each race, as rows.
 fn push_all_ranks(items: &Items<RanksAfter>, out: &mut Vec<u8>) -> Result<(), AllocError>
-    ensures ok { OnOk result (out.new.items ≡ out.old.items ++ (rows after_row items.now)) }
-    ensures err { OnErr result (take (vec_len out.old) out.new.items ≡ out.old.items) }
-    ensures room { vec_capacity out.old ≤ vec_capacity out.new }
-    ensures full { OnErr result (vec_capacity out.old < vec_len out.old + length (rows after_row items.now)) }
+    ensures { Pushed (rows after_row items.now) out.old out.new result }
 {
     push_rows(&AllRanks, items.as_slice(), out)
 }

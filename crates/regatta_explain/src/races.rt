@@ -1,27 +1,23 @@
 //! Rows of races.
 
-ghost use Rattle.std.specs.Prelude.{◌≡◌, ◌≤◌, ◌<◌, ◌++◌, ◌+◌, take, length, vec_len};
-ghost use Rattle.std.specs.Prelude.{vec_capacity, IfSome, OnOk, OnErr};
+ghost use Rattle.std.specs.Prelude.{◌≡◌, IfSome};
+ghost use Rattle.regatta_json.specs.Pushed.{Pushed};
 ghost use Rattle.regatta_explain.specs.Made.{holdings_text, is_bare as is_bare_by};
 ghost use Rattle.regatta_explain.specs.Rows.{group_text, status_text, held_text};
 ghost use Rattle.regatta_explain.specs.Rows.{penalties_text, redress_text};
 ghost use Rattle.regatta_explain.specs.Rows.{race_head, race_scores_text, race_text};
 
-use crate::fields::{
-    push_code, push_count, push_flag, push_number, push_race_no, push_redress, push_sails,
-    push_seconds, push_status, push_text, push_word,
-};
+use crate::fields::{push_code, push_redress, push_sails, push_seconds, push_status};
 use crate::parts::{GroupPart, HeldPart, RacePart};
-use regatta_json::push_pieces;
+use regatta_json::{
+    push_count, push_flag, push_number, push_pieces, push_race_no, push_text, push_word,
+};
 use std::alloc::AllocError;
 
 /// Appends the row of a group.
 #[tactic(auto, unfolding(crate::specs::Rows::group_text))]
 pub(crate) fn push_group(part: &GroupPart, out: &mut Vec<u8>) -> Result<(), AllocError>
-    ensures ok { OnOk result (out.new.items ≡ out.old.items ++ group_text part.now) }
-    ensures err { OnErr result (take (vec_len out.old) out.new.items ≡ out.old.items) }
-    ensures room { vec_capacity out.old ≤ vec_capacity out.new }
-    ensures full { OnErr result (vec_capacity out.old < vec_len out.old + length (group_text part.now)) }
+    ensures { Pushed (group_text part.now) out.old out.new result }
 {
     push_count(b"{\"place\":", part.place, out)?;
     push_count(b",\"sharing\":", part.sharing, out)?;
@@ -34,10 +30,7 @@ pub(crate) fn push_group(part: &GroupPart, out: &mut Vec<u8>) -> Result<(), Allo
 /// Appends how a boat is scored.
 #[tactic(auto, unfolding(crate::specs::Rows::status_text))]
 fn push_scored(part: &HeldPart, out: &mut Vec<u8>) -> Result<(), AllocError>
-    ensures ok { OnOk result (out.new.items ≡ out.old.items ++ status_text part.now) }
-    ensures err { OnErr result (take (vec_len out.old) out.new.items ≡ out.old.items) }
-    ensures room { vec_capacity out.old ≤ vec_capacity out.new }
-    ensures full { OnErr result (vec_capacity out.old < vec_len out.old + length (status_text part.now)) }
+    ensures { Pushed (status_text part.now) out.old out.new result }
 {
     push_word(b"{\"sail\":\"", part.sail.as_bytes(), out)?;
     push_status(b"\",\"status\":\"", part.status, out)?;
@@ -48,10 +41,7 @@ fn push_scored(part: &HeldPart, out: &mut Vec<u8>) -> Result<(), AllocError>
 /// Appends her code and penalties.
 #[tactic(auto, unfolding(crate::specs::Rows::penalties_text))]
 fn push_penalties(part: &HeldPart, out: &mut Vec<u8>) -> Result<(), AllocError>
-    ensures ok { OnOk result (out.new.items ≡ out.old.items ++ penalties_text part.now) }
-    ensures err { OnErr result (take (vec_len out.old) out.new.items ≡ out.old.items) }
-    ensures room { vec_capacity out.old ≤ vec_capacity out.new }
-    ensures full { OnErr result (vec_capacity out.old < vec_len out.old + length (penalties_text part.now)) }
+    ensures { Pushed (penalties_text part.now) out.old out.new result }
 {
     push_code(b",\"code\":", part.code, out)?;
     push_number(b",\"zfp\":", u32::from(part.zfp), out)?;
@@ -62,10 +52,7 @@ fn push_penalties(part: &HeldPart, out: &mut Vec<u8>) -> Result<(), AllocError>
 /// Appends her redress and her time.
 #[tactic(auto, unfolding(crate::specs::Rows::redress_text))]
 fn push_redress_and_time(part: &HeldPart, out: &mut Vec<u8>) -> Result<(), AllocError>
-    ensures ok { OnOk result (out.new.items ≡ out.old.items ++ redress_text part.now) }
-    ensures err { OnErr result (take (vec_len out.old) out.new.items ≡ out.old.items) }
-    ensures room { vec_capacity out.old ≤ vec_capacity out.new }
-    ensures full { OnErr result (vec_capacity out.old < vec_len out.old + length (redress_text part.now)) }
+    ensures { Pushed (redress_text part.now) out.old out.new result }
 {
     push_redress(b",\"redress\":", part.redress, out)?;
     push_seconds(b",\"seconds\":", part.seconds, out)?;
@@ -99,10 +86,7 @@ fn is_bare(part: &HeldPart) -> bool
 /// Appends her code, penalties, redress and time, one after another.
 #[tactic(auto, unfolding(crate::specs::Made::holdings_text))]
 fn push_each_holding(part: &HeldPart, out: &mut Vec<u8>) -> Result<(), AllocError>
-    ensures ok { OnOk result (out.new.items ≡ out.old.items ++ (holdings_text part.now)) }
-    ensures err { OnErr result (take (vec_len out.old) out.new.items ≡ out.old.items) }
-    ensures room { vec_capacity out.old ≤ vec_capacity out.new }
-    ensures full { OnErr result (vec_capacity out.old < vec_len out.old + length (holdings_text part.now)) }
+    ensures { Pushed (holdings_text part.now) out.old out.new result }
 {
     push_penalties(part, out)?;
     push_redress_and_time(part, out)?;
@@ -112,10 +96,7 @@ fn push_each_holding(part: &HeldPart, out: &mut Vec<u8>) -> Result<(), AllocErro
 /// Appends her code, penalties, redress and time.
 // Most boats have none of them.
 fn push_holdings(part: &HeldPart, out: &mut Vec<u8>) -> Result<(), AllocError>
-    ensures ok { OnOk result (out.new.items ≡ out.old.items ++ (holdings_text part.now)) }
-    ensures err { OnErr result (take (vec_len out.old) out.new.items ≡ out.old.items) }
-    ensures room { vec_capacity out.old ≤ vec_capacity out.new }
-    ensures full { OnErr result (vec_capacity out.old < vec_len out.old + length (holdings_text part.now)) }
+    ensures { Pushed (holdings_text part.now) out.old out.new result }
 {
     match bare_holdings(part) {
         Some(text) => push_text(text, out),
@@ -126,10 +107,7 @@ fn push_holdings(part: &HeldPart, out: &mut Vec<u8>) -> Result<(), AllocError>
 /// Appends the row of a boat in a race.
 #[tactic(auto, unfolding(crate::specs::Rows::held_text, crate::specs::Made::holdings_text))]
 pub(crate) fn push_held(part: &HeldPart, out: &mut Vec<u8>) -> Result<(), AllocError>
-    ensures ok { OnOk result (out.new.items ≡ out.old.items ++ held_text part.now) }
-    ensures err { OnErr result (take (vec_len out.old) out.new.items ≡ out.old.items) }
-    ensures room { vec_capacity out.old ≤ vec_capacity out.new }
-    ensures full { OnErr result (vec_capacity out.old < vec_len out.old + length (held_text part.now)) }
+    ensures { Pushed (held_text part.now) out.old out.new result }
 {
     push_scored(part, out)?;
     push_holdings(part, out)?;
@@ -139,10 +117,7 @@ pub(crate) fn push_held(part: &HeldPart, out: &mut Vec<u8>) -> Result<(), AllocE
 /// Appends a race, whether it counts, and how many boats are entered.
 #[tactic(auto, unfolding(crate::specs::Rows::race_head))]
 fn push_race_head(part: &RacePart, out: &mut Vec<u8>) -> Result<(), AllocError>
-    ensures ok { OnOk result (out.new.items ≡ out.old.items ++ race_head part.now) }
-    ensures err { OnErr result (take (vec_len out.old) out.new.items ≡ out.old.items) }
-    ensures room { vec_capacity out.old ≤ vec_capacity out.new }
-    ensures full { OnErr result (vec_capacity out.old < vec_len out.old + length (race_head part.now)) }
+    ensures { Pushed (race_head part.now) out.old out.new result }
 {
     push_race_no(b"{\"race\":", part.race, out)?;
     push_flag(b",\"counts\":", part.counts, out)?;
@@ -153,10 +128,7 @@ fn push_race_head(part: &RacePart, out: &mut Vec<u8>) -> Result<(), AllocError>
 /// Appends how many came, and the DNF score and 20% of it.
 #[tactic(auto, unfolding(crate::specs::Rows::race_scores_text))]
 fn push_race_scores(part: &RacePart, out: &mut Vec<u8>) -> Result<(), AllocError>
-    ensures ok { OnOk result (out.new.items ≡ out.old.items ++ race_scores_text part.now) }
-    ensures err { OnErr result (take (vec_len out.old) out.new.items ≡ out.old.items) }
-    ensures room { vec_capacity out.old ≤ vec_capacity out.new }
-    ensures full { OnErr result (vec_capacity out.old < vec_len out.old + length (race_scores_text part.now)) }
+    ensures { Pushed (race_scores_text part.now) out.old out.new result }
 {
     push_count(b",\"came\":", part.came, out)?;
     push_count(b",\"dnf\":", part.dnf, out)?;
@@ -167,10 +139,7 @@ fn push_race_scores(part: &RacePart, out: &mut Vec<u8>) -> Result<(), AllocError
 /// Appends what a race is scored by.
 #[tactic(auto, unfolding(crate::specs::Rows::race_text))]
 pub(crate) fn push_race(part: &RacePart, out: &mut Vec<u8>) -> Result<(), AllocError>
-    ensures ok { OnOk result (out.new.items ≡ out.old.items ++ race_text part.now) }
-    ensures err { OnErr result (take (vec_len out.old) out.new.items ≡ out.old.items) }
-    ensures room { vec_capacity out.old ≤ vec_capacity out.new }
-    ensures full { OnErr result (vec_capacity out.old < vec_len out.old + length (race_text part.now)) }
+    ensures { Pushed (race_text part.now) out.old out.new result }
 {
     push_race_head(part, out)?;
     push_race_scores(part, out)?;

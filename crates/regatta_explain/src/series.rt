@@ -1,13 +1,15 @@
 //! The rules of a series, and the numbers of its document.
 
-ghost use Rattle.std.specs.Prelude.{◌≡◌, ◌≤◌, ◌<◌, ◌++◌, ◌+◌, take, length, vec_len};
-ghost use Rattle.std.specs.Prelude.{vec_capacity, decimal, OnOk, OnErr};
+ghost use Rattle.std.specs.Prelude.{◌≡◌, decimal};
+ghost use Rattle.regatta_json.specs.Pushed.{Pushed};
 ghost use Rattle.regatta_json.specs.Rows.{values};
-ghost use Rattle.regatta_explain.specs.Rows.{absent_word, field, number_value, rules_text};
+ghost use Rattle.regatta_json.specs.Fields.{field, number_value};
+ghost use Rattle.regatta_explain.specs.Rows.{absent_word, rules_text};
 
-use crate::fields::{push_flag, push_number, push_value, push_word};
 use crate::parts::RulesPart;
-use regatta_json::{ItemWriter, push_pieces, push_values};
+use regatta_json::{
+    ItemWriter, push_flag, push_number, push_pieces, push_value, push_values, push_word,
+};
 use regatta_scores::Items;
 use regatta_terms::Absent;
 use std::alloc::AllocError;
@@ -24,20 +26,14 @@ fn rule_of(absent: Absent) -> &'static [u8]
 
 /// Appends a name, and the rule by which boats that don't finish are scored.
 fn push_absent(name: &[u8], absent: Absent, out: &mut Vec<u8>) -> Result<(), AllocError>
-    ensures ok { OnOk result (out.new.items ≡ out.old.items ++ (field name.now (absent_word absent))) }
-    ensures err { OnErr result (take (vec_len out.old) out.new.items ≡ out.old.items) }
-    ensures room { vec_capacity out.old ≤ vec_capacity out.new }
-    ensures full { OnErr result (vec_capacity out.old < vec_len out.old + length (field name.now (absent_word absent))) }
+    ensures { Pushed (field name.now (absent_word absent)) out.old out.new result }
 {
     push_word(name, rule_of(absent), out)
 }
 
 /// Appends a name and an amount of points, or null.
 fn push_amount(name: &[u8], amount: Option<u8>, out: &mut Vec<u8>) -> Result<(), AllocError>
-    ensures ok { OnOk result (out.new.items ≡ out.old.items ++ (field name.now (number_value amount))) }
-    ensures err { OnErr result (take (vec_len out.old) out.new.items ≡ out.old.items) }
-    ensures room { vec_capacity out.old ≤ vec_capacity out.new }
-    ensures full { OnErr result (vec_capacity out.old < vec_len out.old + length (field name.now (number_value amount))) }
+    ensures { Pushed (field name.now (number_value amount)) out.old out.new result }
 {
     push_value(name, amount.map(u32::from), out)
 }
@@ -57,10 +53,7 @@ impl ItemWriter<u8> for Thresholds {
 
 /// Appends thresholds as values.
 fn push_thresholds(thresholds: &Items<u8>, out: &mut Vec<u8>) -> Result<(), AllocError>
-    ensures ok { OnOk result (out.new.items ≡ out.old.items ++ (values decimal thresholds.now)) }
-    ensures err { OnErr result (take (vec_len out.old) out.new.items ≡ out.old.items) }
-    ensures room { vec_capacity out.old ≤ vec_capacity out.new }
-    ensures full { OnErr result (vec_capacity out.old < vec_len out.old + length (values decimal thresholds.now)) }
+    ensures { Pushed (values decimal thresholds.now) out.old out.new result }
 {
     push_values(&Thresholds, thresholds.as_slice(), out)
 }
@@ -71,10 +64,7 @@ fn push_named_thresholds(
     thresholds: &Items<u8>,
     out: &mut Vec<u8>,
 ) -> Result<(), AllocError>
-    ensures ok { OnOk result (out.new.items ≡ out.old.items ++ (field name.now (values decimal thresholds.now))) }
-    ensures err { OnErr result (take (vec_len out.old) out.new.items ≡ out.old.items) }
-    ensures room { vec_capacity out.old ≤ vec_capacity out.new }
-    ensures full { OnErr result (vec_capacity out.old < vec_len out.old + length (field name.now (values decimal thresholds.now))) }
+    ensures { Pushed (field name.now (values decimal thresholds.now)) out.old out.new result }
 {
     push_pieces(out, &[name])?;
     push_thresholds(thresholds, out)?;
@@ -84,10 +74,7 @@ fn push_named_thresholds(
 /// Appends the rules of a series.
 #[tactic(auto, unfolding(crate::specs::Rows::rules_text))]
 pub(crate) fn push_rules(rules: &RulesPart, out: &mut Vec<u8>) -> Result<(), AllocError>
-    ensures ok { OnOk result (out.new.items ≡ out.old.items ++ (rules_text rules.now)) }
-    ensures err { OnErr result (take (vec_len out.old) out.new.items ≡ out.old.items) }
-    ensures room { vec_capacity out.old ≤ vec_capacity out.new }
-    ensures full { OnErr result (vec_capacity out.old < vec_len out.old + length (rules_text rules.now)) }
+    ensures { Pushed (rules_text rules.now) out.old out.new result }
 {
     push_absent(b"{\"absent\":\"", rules.absent, out)?;
     push_amount(b"\",\"scp\":", rules.scp, out)?;

@@ -1,21 +1,17 @@
 //! Rows of neighbours with the same series score, and ranks after a race.
 
-ghost use Rattle.std.specs.Prelude.{◌≡◌, ◌≤◌, ◌<◌, ◌++◌, ◌+◌, take, length, vec_len};
-ghost use Rattle.std.specs.Prelude.{vec_capacity, decimal, OnOk, OnErr};
+ghost use Rattle.std.specs.Prelude.{◌++◌, decimal};
+ghost use Rattle.regatta_json.specs.Pushed.{Pushed};
 ghost use Rattle.regatta_explain.specs.Rows.{compared_text, separation_text, neighbour_text};
 ghost use Rattle.regatta_explain.specs.Rows.{rank_text};
 
-use crate::fields::{push_count, push_flag, push_number, push_tenths, push_word};
 use crate::parts::{Compared, NeighbourPart, RankPart, Separation};
-use regatta_json::push_pieces;
+use regatta_json::{push_count, push_flag, push_number, push_pieces, push_tenths, push_word};
 use std::alloc::AllocError;
 
 /// Appends where two scores are compared.
 fn push_at(at: u8, out: &mut Vec<u8>) -> Result<(), AllocError>
-    ensures ok { OnOk result (out.new.items ≡ out.old.items ++ decimal at) }
-    ensures err { OnErr result (take (vec_len out.old) out.new.items ≡ out.old.items) }
-    ensures room { vec_capacity out.old ≤ vec_capacity out.new }
-    ensures full { OnErr result (vec_capacity out.old < vec_len out.old + length (decimal at)) }
+    ensures { Pushed (decimal at) out.old out.new result }
 {
     push_number(b"", u32::from(at), out)
 }
@@ -23,10 +19,7 @@ fn push_at(at: u8, out: &mut Vec<u8>) -> Result<(), AllocError>
 /// Appends two scores, and where they are compared.
 #[tactic(auto, unfolding(crate::specs::Rows::compared_text))]
 fn push_compared(compared: &Compared, out: &mut Vec<u8>) -> Result<(), AllocError>
-    ensures ok { OnOk result (out.new.items ≡ out.old.items ++ compared_text compared.now) }
-    ensures err { OnErr result (take (vec_len out.old) out.new.items ≡ out.old.items) }
-    ensures room { vec_capacity out.old ≤ vec_capacity out.new }
-    ensures full { OnErr result (vec_capacity out.old < vec_len out.old + length (compared_text compared.now)) }
+    ensures { Pushed (compared_text compared.now) out.old out.new result }
 {
     push_at(compared.at, out)?;
     push_tenths(b",\"scores\":[", compared.first, out)?;
@@ -37,10 +30,7 @@ fn push_compared(compared: &Compared, out: &mut Vec<u8>) -> Result<(), AllocErro
 
 /// Appends the words before two scores that are compared, and then these.
 fn push_by(words: &[u8], compared: &Compared, out: &mut Vec<u8>) -> Result<(), AllocError>
-    ensures ok { OnOk result (out.new.items ≡ out.old.items ++ (words.now ++ compared_text compared.now)) }
-    ensures err { OnErr result (take (vec_len out.old) out.new.items ≡ out.old.items) }
-    ensures room { vec_capacity out.old ≤ vec_capacity out.new }
-    ensures full { OnErr result (vec_capacity out.old < vec_len out.old + length (words.now ++ compared_text compared.now)) }
+    ensures { Pushed (words.now ++ compared_text compared.now) out.old out.new result }
 {
     push_pieces(out, &[words])?;
     push_compared(compared, out)?;
@@ -50,10 +40,7 @@ fn push_by(words: &[u8], compared: &Compared, out: &mut Vec<u8>) -> Result<(), A
 /// Appends what separates two boats.
 #[tactic(auto, unfolding(crate::specs::Rows::separation_text))]
 fn push_separation(rule: &Separation, out: &mut Vec<u8>) -> Result<(), AllocError>
-    ensures ok { OnOk result (out.new.items ≡ out.old.items ++ separation_text rule.now) }
-    ensures err { OnErr result (take (vec_len out.old) out.new.items ≡ out.old.items) }
-    ensures room { vec_capacity out.old ≤ vec_capacity out.new }
-    ensures full { OnErr result (vec_capacity out.old < vec_len out.old + length (separation_text rule.now)) }
+    ensures { Pushed (separation_text rule.now) out.old out.new result }
 {
     match rule {
         Separation::ByBest(compared) => push_by(b"\"A8.1\",\"position\":", compared, out),
@@ -65,10 +52,7 @@ fn push_separation(rule: &Separation, out: &mut Vec<u8>) -> Result<(), AllocErro
 /// Appends the row of two neighbours.
 #[tactic(auto, unfolding(crate::specs::Rows::neighbour_text))]
 pub(crate) fn push_neighbour(part: &NeighbourPart, out: &mut Vec<u8>) -> Result<(), AllocError>
-    ensures ok { OnOk result (out.new.items ≡ out.old.items ++ neighbour_text part.now) }
-    ensures err { OnErr result (take (vec_len out.old) out.new.items ≡ out.old.items) }
-    ensures room { vec_capacity out.old ≤ vec_capacity out.new }
-    ensures full { OnErr result (vec_capacity out.old < vec_len out.old + length (neighbour_text part.now)) }
+    ensures { Pushed (neighbour_text part.now) out.old out.new result }
 {
     push_word(b"{\"first\":\"", part.first.as_bytes(), out)?;
     push_word(b"\",\"second\":\"", part.second.as_bytes(), out)?;
@@ -80,10 +64,7 @@ pub(crate) fn push_neighbour(part: &NeighbourPart, out: &mut Vec<u8>) -> Result<
 /// Appends a boat's rank after a race.
 #[tactic(auto, unfolding(crate::specs::Rows::rank_text))]
 pub(crate) fn push_rank(part: &RankPart, out: &mut Vec<u8>) -> Result<(), AllocError>
-    ensures ok { OnOk result (out.new.items ≡ out.old.items ++ rank_text part.now) }
-    ensures err { OnErr result (take (vec_len out.old) out.new.items ≡ out.old.items) }
-    ensures room { vec_capacity out.old ≤ vec_capacity out.new }
-    ensures full { OnErr result (vec_capacity out.old < vec_len out.old + length (rank_text part.now)) }
+    ensures { Pushed (rank_text part.now) out.old out.new result }
 {
     push_word(b"[\"", part.sail.as_bytes(), out)?;
     push_count(b"\",", part.rank, out)?;

@@ -1,6 +1,6 @@
 -- Texts put together piece by piece.
 use Rattle.std.proofs.Common.{◌≡◌, ℕ, ◌+◌, ◌<◌, ◌≤◌, List, [], ◌∷◌, ◌++◌, length, take, get_or}
-use Rattle.std.proofs.Common.{ap, ◌∙◌, sym, append_assoc, length-append, arith}
+use Rattle.std.proofs.Common.{ap, ◌∙◌, sym, append-nil, append_assoc, length-append, arith}
 use Rattle.std.specs.List.{flat_map}
 use Rattle.std.proofs.Math.Seq.{take-append_seam}
 use Rattle.std.proofs.lemmas.List.{flat_map_more, take_more, take-take}
@@ -52,6 +52,10 @@ no_room_for_piece pieces i d before text room cap old len below so_far start end
       ap length so_far,
       length-append before (flat_map (λ piece. piece.now) (take i pieces)),
     )
+
+-- two pieces, one after the other
+pub two_pieces : (name value : List ℕ) → name ++ (value ++ []) ≡ name ++ value
+two_pieces name value = ap (λ (t : List ℕ). name ++ t) (append-nil value)
 
 -- two parts, one after the other
 pub two_parts : (old a b one two : List ℕ) → one ≡ old ++ a → two ≡ one ++ b → two ≡ old ++ (a ++ b)

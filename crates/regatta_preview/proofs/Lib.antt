@@ -1,3 +1,4 @@
+pub mod ChangeFacts
 pub mod Refused
 pub mod RunFacts
 pub mod TalkFacts

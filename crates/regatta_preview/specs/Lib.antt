@@ -1,4 +1,5 @@
 pub mod Boards
+pub mod Changes
 pub mod Documents
 pub mod Moves
 pub mod Previews

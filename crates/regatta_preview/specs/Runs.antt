@@ -1,7 +1,8 @@
 -- What a preview reads and writes, and how it ends.
-use Rattle.std.specs.Prelude.{◌≡◌, ◌⊎◌, ℕ, ◌+◌, true, List, Option, Some, None, Result, Ok, Err}
+use Rattle.std.specs.Prelude.{◌≡◌, ◌≢◌, ◌⊎◌, ℕ, ◌+◌, ◌<◌, true, List, length, Option, Some, None}
+use Rattle.std.specs.Prelude.{Result, Ok, Err, IfErr, IfSome, IsErrOf}
 use Rattle.std.specs.Io.KnownBytes.{Appends}
-use Rattle.regatta_streams.specs.Texts.{AppendsPrefix, IsAllOf}
+use Rattle.regatta_streams.specs.Texts.{AppendsPrefix, GaveAtMost, IsAllOf}
 use Rattle.regatta_streams.specs.declared.whole.ReadFault.{ReadFault}
 use Rattle.regatta_streams.specs.declared.whole.ReadFault.TheVariants as reading
 use Rattle.regatta_terms.specs.Rules.{RulesParts}
@@ -89,3 +90,18 @@ pub record AreCounted {A : Type 0} (reads reads' writes writes' : ℕ) (result :
     : Type 0 where
   pub read : reads' ≡ reads + failed_reads_of result
   pub wrote : writes' ≡ writes + failed_writes_of result
+
+-- ---- what a preview leaves as it was, and what it reads
+
+-- if an entry of the start is refused, nothing is read or written; after any fault but that of a write
+-- nothing is written
+pub record IsUntouched {A R W : Type 0} (due : Option (ℕ × Refusal)) (input input' : R)
+    (output output' : W) (result : Result A PreviewFault) : Type 0 where
+  pub refused : due ≢ None → (input' ≡ input) × (output' ≡ output)
+  pub silent : IfErr result (λ why. why ≢ Write → output' ≡ output)
+
+-- at most one byte more than the limit is read, and the input is too long only if that came
+pub record IsTaken {A : Type 0} (given left : Option (List ℕ)) (result : Result A PreviewFault)
+    : Type 0 where
+  pub most : GaveAtMost (INPUT_LIMIT + 1) given left
+  pub long : IsErrOf result InputTooLong → IfSome given (λ text. INPUT_LIMIT < length text)

@@ -13,7 +13,7 @@ use regatta_terms::Touched;
 use std::alloc::{AllocError, Global};
 
 /// A boat's rank and net, by her row of a table.
-fn place_of(row: &Row) -> Touched
+pub(crate) fn place_of(row: &Row) -> Touched
     ensures { result ≡ place_by row.now }
 {
     Touched {
@@ -31,7 +31,7 @@ fn differ(before: &Touched, after: &Touched) -> bool
 }
 
 /// Whether the boat is new, or stands otherwise.
-fn has_moved(step: &Move) -> bool
+pub(crate) fn has_moved(step: &Move) -> bool
     ensures { result ≡ has_moved_by step.now }
 {
     match &step.before {

@@ -1,7 +1,7 @@
 //! What a preview says, row by row.
 
-use regatta_scores::Items;
-use regatta_terms::{Reply, Role, Sail, Touched};
+use regatta_scores::{Cell, Items};
+use regatta_terms::{RaceNo, Reply, Role, Sail, Touched};
 
 /// The reply to a line.
 #[derive(Clone, Copy)]
@@ -23,6 +23,26 @@ pub struct Move {
     pub after: Touched,
 }
 
+/// A boat's score in a race that counts before the lines or after them.
+#[derive(Clone, Copy)]
+pub struct ScoreChange {
+    /// The race.
+    pub race: RaceNo,
+    /// Her score before the lines; `None` if the race didn't count, or if she wasn't entered.
+    pub before: Option<Cell>,
+    /// Her score after them; `None` if the race doesn't count.
+    pub after: Option<Cell>,
+}
+
+/// A boat whose rank, net or scores are others after the lines than before them.
+#[derive(Drop)]
+pub struct Change {
+    /// The boat, and her rank and net before the lines and after them.
+    pub step: Move,
+    /// Her scores in the races that count before the lines or after them.
+    pub scores: Items<ScoreChange>,
+}
+
 /// What lines would do.
 #[derive(Drop)]
 pub struct Preview {
@@ -32,4 +52,6 @@ pub struct Preview {
     pub replies: Items<LineReply>,
     /// The boats that move, in the order of the last table.
     pub moves: Items<Move>,
+    /// The boats whose rank, net or scores change, in the same order.
+    pub changes: Items<Change>,
 }

@@ -1,14 +1,12 @@
 //! A preview, from an input stream to an output stream.
 
-ghost use Rattle.std.specs.Prelude.{◌≡◌, ◌≢◌, ◌⊎◌, ◌+◌, ◌<◌, length, None, IfErr, IfSome, OnOk};
-ghost use Rattle.std.specs.Prelude.{IsErrOf};
+ghost use Rattle.std.specs.Prelude.{◌≡◌, ◌⊎◌, ◌+◌, OnOk, IsErrOf};
 ghost use Rattle.std.specs.Io.KnownBytes.{Appends, Keeps};
 ghost use Rattle.regatta_board.specs.Replays.{first_refused};
-ghost use Rattle.regatta_streams.specs.Texts.{AppendsPrefix, GaveAtMost};
-ghost use Rattle.regatta_preview.specs.declared.run.TheConstants.{INPUT_LIMIT};
+ghost use Rattle.regatta_streams.specs.Texts.{AppendsPrefix};
 ghost use Rattle.regatta_preview.specs.Previews.{previewed};
-ghost use Rattle.regatta_preview.specs.Runs.{AreCounted, IsStartOf, OfLines, WritesAtMost};
-ghost use Rattle.regatta_preview.specs.Runs.{failed_writes_in};
+ghost use Rattle.regatta_preview.specs.Runs.{AreCounted, IsStartOf, IsTaken, IsUntouched, OfLines};
+ghost use Rattle.regatta_preview.specs.Runs.{WritesAtMost, failed_writes_in};
 ghost use Rattle.regatta_preview.specs.Runs.{read_fault as read_fault_of, start_fault as start_fault_of};
 
 use crate::whole::write_preview;
@@ -117,26 +115,24 @@ pub fn preview<R: Source, W: Sink>(
         (W.contents output.old) (W.contents output.new)
         (previewed rules.now start.now role text))) }
 
-    // If an entry of the start is refused, the result is the first of them, or `NoMemory`. Nothing
-    // is read or written then.
+    // If an entry of the start is refused, the result is the first of them, or `NoMemory`.
     ensures start { IsStartOf rules.now start.now result }
-    ensures unmoved { first_refused rules.now start.now ≢ None →
-        (input.new ≡ input.old) × (output.new ≡ output.old) }
+
+    // Nothing is read or written then, and after any other fault but `Write` nothing is written.
+    ensures untouched { IsUntouched (first_refused rules.now start.now) input.old input.new output.old
+        output.new result }
 
     // A failed device is reported as its own fault and as nothing else.
     ensures counted { AreCounted (R.failures input.old) (R.failures input.new)
         (W.failures output.old) (W.failures output.new) result }
 
     // At most one byte more than the limit is read, and the input is too long only if that came.
-    ensures taken { GaveAtMost (INPUT_LIMIT + 1) (R.remaining input.old) (R.remaining input.new) }
-    ensures long { IsErrOf result PreviewFault.InputTooLong →
-        IfSome (R.remaining input.old) (λ text. INPUT_LIMIT < length text) }
+    ensures taken { IsTaken (R.remaining input.old) (R.remaining input.new) result }
 
-    // After a failed write a first part of the document is written, after any other fault nothing.
+    // After a failed write a first part of the document is written.
     ensures cut { IsErrOf result PreviewFault.Write → OfLines (R.remaining input.old)
         (λ text. AppendsPrefix (W.contents output.old) (W.contents output.new)
         (previewed rules.now start.now role text)) }
-    ensures silent { IfErr result (λ why. why ≢ PreviewFault.Write → output.new ≡ output.old) }
 
     // Whatever the result, nothing is written, or the document, or a beginning of it.
     ensures at_most { Keeps (W.contents output.old) (W.contents output.new)

@@ -3,6 +3,7 @@
 ghost use Rattle.std.specs.Prelude.{◌≡◌, ◌++◌, IfOk, OnOk};
 ghost use Rattle.regatta_preview.specs.Previews.{preview, previewed};
 
+use crate::changes::changes_since;
 use crate::documents::write_document;
 use crate::moves::moves_since;
 use crate::parts::Preview;
@@ -33,10 +34,12 @@ pub fn preview_of(
     };
     let replies = take_lines(alloc, &mut last, role, text)?;
     let moves = moves_since(alloc, first, &last)?;
+    let changes = changes_since(alloc, first, &last)?;
     Ok(Preview {
         role,
         replies: Items::new(replies),
         moves,
+        changes,
     })
 }
 

@@ -1,11 +1,17 @@
+use Rattle.std.proofs.Common.{rules}
 use Rattle.regatta_json.proofs.Texts.{four_parts}
 use Rattle.regatta_explain.specs.Rows.{average_text}
 use Rattle.regatta_explain.proofs.boats.push_each_average.Goals as goal
 
-pub returns-clause-ok : goal.returns-clause-ok
+pub returns : goal.returns
 unfolding average_text
-returns-clause-ok c =
-    four_parts _ _ _ _ _ _ _ _ _ c.in_ok-push_redress.ensures.ok
-    c.in_ok-push_pieces.ensures.ok
-    c.in_ok-push_races.ensures.ok
-    c.in_ok-push_points.ensures.ok
+returns c =
+    record {
+      ok = four_parts _ _ _ _ _ _ _ _ _ c.in_ok-push_redress.ensures.ok
+          c.in_ok-push_pieces.ensures.ok
+          c.in_ok-push_races.ensures.ok
+          c.in_ok-push_points.ensures.ok;
+      err = search rules;
+      room = search rules;
+      full = search rules;
+    }

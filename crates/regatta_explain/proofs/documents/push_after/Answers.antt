@@ -1,10 +1,16 @@
+use Rattle.std.proofs.Common.{rules}
 use Rattle.regatta_json.proofs.Texts.{three_parts}
 use Rattle.regatta_explain.specs.Documents.{after_text}
 use Rattle.regatta_explain.proofs.documents.push_after.Goals as goal
 
-pub returns-clause-ok : goal.returns-clause-ok
+pub returns : goal.returns
 unfolding after_text
-returns-clause-ok c =
-    three_parts _ _ _ _ _ _ _ c.in_ok-push_pieces.ensures.ok
-    c.in_ok-push_all_ranks.ensures.ok
-    c.in_ok-push_pieces-2.ensures.ok
+returns c =
+    record {
+      ok = three_parts _ _ _ _ _ _ _ c.in_ok-push_pieces.ensures.ok
+          c.in_ok-push_all_ranks.ensures.ok
+          c.in_ok-push_pieces-2.ensures.ok;
+      err = search rules;
+      room = search rules;
+      full = search rules;
+    }

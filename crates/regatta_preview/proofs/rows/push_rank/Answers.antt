@@ -1,10 +1,14 @@
-use Rattle.regatta_json.proofs.Texts.{three_parts}
+use Rattle.std.proofs.Common.{rules}
+use Rattle.regatta_json.proofs.Texts.{two_parts}
 use Rattle.regatta_preview.specs.Rows.{rank_row}
 use Rattle.regatta_preview.proofs.rows.push_rank.Goals as goal
 
-pub returns-clause-ok : goal.returns-clause-ok
+pub returns : goal.returns
 unfolding rank_row
-returns-clause-ok c =
-    three_parts _ _ _ _ _ _ _ c.in_ok-push_pieces.ensures.ok
-    c.in_ok-push_place.ensures.ok
-    c.in_ok-push_pieces-2.ensures.ok
+returns c =
+    record {
+      ok = two_parts _ _ _ _ _ c.in_ok-push_named_place.ensures.ok c.in_ok-push_text.ensures.ok;
+      err = search rules;
+      room = search rules;
+      full = search rules;
+    }

@@ -1,9 +1,14 @@
-use Rattle.std.proofs.Common.{◌≡◌, decimal}
+use Rattle.std.proofs.Common.{rules}
+use Rattle.regatta_json.proofs.Texts.{two_parts}
 use Rattle.regatta_preview.specs.Rows.{sheet_row}
 use Rattle.regatta_preview.proofs.rows.push_sheet.Goals as goal
 
-pub returns-clause-ok : goal.returns-clause-ok
+pub returns : goal.returns
 unfolding sheet_row
-returns-clause-ok c =
-    let digits : c.as_bytes.result.now ≡ decimal c.args.entries = cc in
-    rw digits at c.push_pieces.ensures.ok
+returns c =
+    record {
+      ok = two_parts _ _ _ _ _ c.in_ok-push_number.ensures.ok c.in_ok-push_text.ensures.ok;
+      err = search rules;
+      room = search rules;
+      full = search rules;
+    }

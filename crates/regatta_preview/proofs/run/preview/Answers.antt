@@ -1,4 +1,4 @@
-use Rattle.std.proofs.Common.{ℕ, List, Err, ap, subst, sym, inl, inr}
+use Rattle.std.proofs.Common.{ℕ, List, Err, ap, rules, subst, sym, inl, inr}
 use Rattle.std.specs.Global.{Vec}
 use Rattle.std.specs.Io.KnownBytes.{Keeps}
 use Rattle.regatta_streams.specs.Texts.{AppendsPrefix}
@@ -12,6 +12,9 @@ pub returns-in-Err-read_text-clause-start : goal.returns-in-Err-read_text-clause
 returns-in-Err-read_text-clause-start g c =
     start_stands _ c.in-Err-read_text.fault c.read_fault.result c.read_fault.ensures
     c.in-Ok.ensures.accepted
+
+pub returns-in-Err-read_text-clause-taken : goal.returns-in-Err-read_text-clause-taken
+returns-in-Err-read_text-clause-taken g c = record { most = search rules; long = search rules }
 
 pub returns-in-Err-read_text-clause-counted : goal.returns-in-Err-read_text-clause-counted
 returns-in-Err-read_text-clause-counted g c =
@@ -47,3 +50,10 @@ returns-clause-at_most g c =
     (g.W.Device.contents w))
     (sym (c.in-Err-NoMemory.ensures.silent (ap Err c.in-Err-NoMemory.field-0-is)))
     (keeps_same (g.W.Device.contents c.args.output.now)))
+
+pub returns-clause-untouched : goal.returns-clause-untouched
+returns-clause-untouched g c =
+    record {
+      refused = λ some. absurd (some c.in-Ok.ensures.accepted);
+      silent = λ _. c.in-Err-NoMemory.ensures.silent (ap Err c.in-Err-NoMemory.field-0-is);
+    }
