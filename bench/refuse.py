@@ -8,7 +8,7 @@ The Nth request of a run is refused, for N = 1, 2, .. up to as many as the run m
 
 - replays of all commands, by finishes and by corrected times;
 - replays of the weekend of `examples/`, with and without start files, in each form;
-- the vocabulary, a journal explained, and a preview of lines;
+- the vocabulary, a journal explained, a preview of lines, and a check of files;
 - help, and arguments that are refused;
 - serving one client, without a kept file and with one;
 - serving one client and two, without a kept file, who are shown the sheet again after newer entries.
@@ -379,6 +379,7 @@ def runs(folder, program):
     yield run("the vocabulary", ["words"])
     yield run("a journal explained", ["explain"] + journal)
     yield run("a preview", ["preview", "--role", "jury"] + journal, b"MARK 1 GBR7 DSQ\nENTER X\nSHOW\nRANK GBR7\n")
+    yield run("a check", ["check"] + journal + boats)
     yield run("help", ["--help"])
     yield run("help of replay", ["replay", "--help"])
     yield run("an unknown word", ["replay", "--speed"], asks_again=True)

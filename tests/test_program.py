@@ -89,7 +89,8 @@ REFUSED = [
     "serve --socket s --sessions 1000001", "serve --socket s --print csv", "replay --socket s", "Replay",
     "replay replay", "words words", "words --scp 3", "explain --print csv", "replay --print pdf", "replay --scp",
     "replay --scp 3 --scp 3", "replay --speed", "preview --print csv", "preview --role office", "preview --role",
-    "preview --role jury --role jury", "explain --role jury", "replay --role jury",
+    "preview --role jury --role jury", "explain --role jury", "replay --role jury", "replay --keep k", "check --print csv",
+    "check --keep", "check --keep k --keep k", "check --socket s", "check --role jury",
 ]
 # Arguments that ask for help, and what it names.
 HELP = {
@@ -102,6 +103,7 @@ HELP = {
         "regatta replay --print journal", "--clients", "BUSY", "--sessions", "--entries", "--handicap"],
     "words --help": ["JSON", "regatta words > words.json"],
     "explain --help": ["JSON", "regatta explain --journal", "--entries", "--exclude", "--handicap"],
+    "check --help": ["JSON", "regatta check --keep saturday.journal", "--journal", "--entries", "--exclude", "--handicap"],
     "preview --help": ["JSON", "regatta preview --role jury --journal", "--entries", "--exclude", "finish, jury, scorer"],
 }
 # The text of a journal file and of an entry list; what a run of the line `ENTER C` then prints, and what
@@ -399,7 +401,7 @@ class Devices(unittest.TestCase):
     def test_output(self) -> None:
         """What fits is printed, also of help."""
         for words, start in [(["replay"], "OK 1 1 0.0"), (["words"], '{"codes":['), (["explain"], '{"rules":{'),
-                             (["preview"], '{"role":"'), (["--help"], "")]:
+                             (["preview"], '{"role":"'), (["check"], '{"faults":'), (["--help"], "")]:
             with tempfile.TemporaryFile() as printed:
                 _, said, status = ran(*words, lines=RACE, stdout=printed, preexec_fn=ten_bytes,
                                       restore_signals=False)

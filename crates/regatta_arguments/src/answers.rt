@@ -3,6 +3,7 @@ ghost use Rattle.std.specs.Prelude.{◌≡◌, ◌≢◌, ◌⊎◌, ℕ, List};
 ghost use Rattle.std.specs.Io.KnownBytes.{Appends};
 ghost use Rattle.clap.specs.Words.{kind_of};
 ghost use Rattle.regatta_arguments.specs.Asking.{IsText};
+ghost use Rattle.regatta_arguments.specs.Stops.{status_of};
 
 use crate::stop::Stop;
 use clap::error::ErrorKind;
@@ -23,7 +24,8 @@ fn say<E: Sink>(program: &str, text: &str, errors: &mut E) -> Result<(), StreamF
 
 /// Writes to standard error what stops the program, and returns its status. It needs no memory.
 pub(crate) fn stopped<E: Sink>(program: &str, stop: Stop, errors: &mut E) -> u8
-    ensures { result ≢ 0 }
+    ensures some { result ≢ 0 }
+    ensures one { result ≡ 1 → status_of stop ≡ 1 }
 {
     match say(program, stop.text(), errors) {
         Ok(()) => stop.status(),
@@ -34,7 +36,8 @@ pub(crate) fn stopped<E: Sink>(program: &str, stop: Stop, errors: &mut E) -> u8
 /// Writes a text to standard error, and returns the status.
 fn told<E: Sink>(text: &str, status: u8, errors: &mut E) -> u8
     requires { status ≢ 0 }
-    ensures { result ≢ 0 }
+    ensures some { result ≢ 0 }
+    ensures one { result ≡ 1 → status ≡ 1 }
 {
     match write_all(errors, text.as_bytes()) {
         Ok(()) => status,
@@ -51,7 +54,10 @@ pub fn complain<C: Display, E: Sink>(
     errors: &mut E,
 ) -> u8
     requires { status ≢ 0 }
-    ensures { result ≢ 0 }
+    ensures some { result ≢ 0 }
+
+    // A program that ends with 1 was told to.
+    ensures one { result ≡ 1 → status ≡ 1 }
 {
     let Ok(text) = format!(in alloc; "{complaint}\n") else {
         return stopped(program, Stop::NoMemory, errors);

@@ -10,10 +10,11 @@ use Rattle.clap.specs.declared.parser.matches.SubCommand.{SubCommand}
 use Rattle.clap.proofs.OnLiterals.{clap_on_literals}
 use Rattle.clap.proofs.WalkLemmas.{first_value-rows}
 use Rattle.regatta_arguments.proofs.Asking.{subcommand_is}
-use Rattle.regatta_office.specs.Asked.{PreviewAsked, ReplayAsked, Series, ServingAsked}
+use Rattle.regatta_office.specs.Asked.{CheckAsked, PreviewAsked, ReplayAsked, Series, ServingAsked}
 use Rattle.regatta_office.specs.declared.options.Asked.TheVariants.{Replay, Serve, Words, Explain}
-use Rattle.regatta_office.specs.declared.options.Asked.TheVariants.{Preview}
-use Rattle.regatta_office.specs.Words.{Parsers, asked_by, preview_with, regatta, replay_with}
+use Rattle.regatta_office.specs.declared.options.Asked.TheVariants.{Preview, Check}
+use Rattle.regatta_office.specs.Words.{Parsers, asked_by, check_with, preview_with, regatta}
+use Rattle.regatta_office.specs.Words.{replay_with}
 use Rattle.regatta_office.specs.Words.{series_with, serving_with, with_rules, with_seats, with_start}
 
 -- what the options of `replay` ask for
@@ -62,6 +63,16 @@ pub preview_is : {Z : Type 0} (met : Option (Box SubCommand Z)) (f : Found) (ask
 preview_is met f asked named found is = ap asked_by (subcommand_is met _ _ named found)
     ∙ (λ i. option_map Preview (preview_with (λ option. sym (first_value-rows f option) i)))
     ∙ ap (option_map Preview) (sym is)
+
+-- what the options of `check` ask for
+pub check_is : {Z : Type 0} (met : Option (Box SubCommand Z)) (f : Found) (asked : CheckAsked)
+    → Some (codes "check") ≡ option_map (λ b. (out-SubCommand (box_value b)).name.now) met
+    → Some (rows_of f) ≡ option_map (λ p. p.1) (subcommand_rows met)
+    → Some asked ≡ check_with (first_value f)
+    → asked_by (subcommand_rows met) ≡ Some (Check asked)
+check_is met f asked named found is = ap asked_by (subcommand_is met _ _ named found)
+    ∙ (λ i. option_map Check (check_with (λ option. sym (first_value-rows f option) i)))
+    ∙ ap (option_map Check) (sym is)
 
 -- the program is of the kind whose matches `clap` specifies
 pub simple : (parsers : Parsers) → is_simple (regatta parsers) ≡ true

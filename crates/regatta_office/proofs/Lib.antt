@@ -1,9 +1,11 @@
 pub mod Asking
+mod Checking
 pub mod EndFacts
 pub mod Entering
 pub mod Gathering
 pub mod HeardFacts
 pub mod KeptStarting
+mod Listing
 pub mod Previewing
 mod Printing
 pub mod Refused

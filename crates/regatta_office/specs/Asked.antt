@@ -44,6 +44,11 @@ pub record PreviewAsked : Type 0 where
   pub series : Series
   pub role : Role
 
+-- what `check` is asked for: the series, and the path of a kept file in place of its journal file
+pub record CheckAsked : Type 0 where
+  pub series : Series
+  pub keep : Option (List ℕ)
+
 -- what `serve` is asked for: the series, the path of the file that keeps it, the path of the socket,
 -- the number of seats, and the number of clients after which the door closes (0: never)
 pub record ServingAsked : Type 0 where

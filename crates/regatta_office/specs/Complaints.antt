@@ -5,7 +5,7 @@ use Rattle.regatta_keep.specs.declared.cause.Cause.TheVariants as cause
 use Rattle.regatta_office.specs.declared.complaint.Complaint.{Complaint}
 use Rattle.regatta_office.specs.declared.complaint.Complaint.TheVariants as complaint
 
--- 1 if a file, the start or the input is at fault, 2 if the rules are, 3 if a device fails, another
+-- 1 if a file, the start or the input is at fault, 2 if the arguments or the rules are, 3 if a device fails, another
 -- office has the kept file, or memory runs out
 abbrev pub status_of : Complaint → ℕ
 status_of (complaint.Rules number) = 2
@@ -17,6 +17,8 @@ status_of (complaint.KeepJournal number line) = 1
 status_of (complaint.KeepDamaged line) = 1
 status_of (complaint.KeepDiffers at) = 1
 status_of complaint.KeepTooLong = 1
+status_of complaint.Unsound = 1
+status_of complaint.TwoFiles = 2
 status_of complaint.KeepTaken = 3
 status_of (complaint.KeepFault why) = 3
 status_of complaint.Device = 3

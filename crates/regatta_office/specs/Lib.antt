@@ -1,5 +1,6 @@
 pub mod Answers
 pub mod Asked
+pub mod CheckedStarts
 pub mod Coming
 pub mod Complaints
 pub mod CutNotes

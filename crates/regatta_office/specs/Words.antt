@@ -13,10 +13,10 @@ use Rattle.regatta_terms.specs.declared.command.Role.TheVariants.{Finish, Jury, 
 use Rattle.regatta_terms.specs.declared.limits.TheConstants.{MAX_SEATS}
 use Rattle.regatta_arguments.specs.Options.{bare_program, flag, is_given, option, option_or}
 use Rattle.regatta_arguments.specs.Options.{required}
-use Rattle.regatta_office.specs.Asked.{PreviewAsked, ReplayAsked, Series, ServingAsked}
+use Rattle.regatta_office.specs.Asked.{CheckAsked, PreviewAsked, ReplayAsked, Series, ServingAsked}
 use Rattle.regatta_office.specs.declared.options.Asked.{Asked}
 use Rattle.regatta_office.specs.declared.options.Asked.TheVariants.{Replay, Serve, Words, Explain}
-use Rattle.regatta_office.specs.declared.options.Asked.TheVariants.{Preview}
+use Rattle.regatta_office.specs.declared.options.Asked.TheVariants.{Preview, Check}
 use Rattle.regatta_office.specs.declared.options.TheConstants.{MOST_SESSIONS}
 use Rattle.regatta_office.specs.declared.form.Form.{Form}
 use Rattle.regatta_office.specs.declared.form.Form.TheVariants.{Table, Csv, Journal}
@@ -99,12 +99,17 @@ abbrev pub preview : ValueParser → App
 preview roles =
     with_rule (with_start (with_rules (new_app (codes "preview")))) (role_option roles)
 
--- the whole program: with its five subcommands
+-- the subcommand `check`: the options of the series, of its start and of the kept file
+abbrev pub check : App
+check = with_rule (with_start (with_rules (new_app (codes "check")))) (option (codes "keep"))
+
+-- the whole program: with its six subcommands
 unfoldable pub regatta : Parsers → App
 regatta parsers =
-    with_subcommand (with_subcommand
+    with_subcommand (with_subcommand (with_subcommand
     (with_subcommand (with_subcommand (with_subcommand (bare_program (codes "regatta"))
-    (replay parsers.forms).top) serve.top) words.top) explain.top) (preview parsers.roles).top
+    (replay parsers.forms).top) serve.top) words.top) explain.top) (preview parsers.roles).top)
+    check.top
 
 -- ---- what words ask for
 
@@ -152,6 +157,12 @@ preview_with value = option_map
     (λ series. record { series = series; role = role_by (value (codes "role")) })
     (series_with value)
 
+-- what `check` is asked for, by the values of its options
+abbrev pub check_with : (Text → Option Text) → Option CheckAsked
+check_with value =
+    option_map (λ series. record { series = series; keep = value (codes "keep") })
+    (series_with value)
+
 -- the number that a text of decimal digits names
 abbrev pub number_by : Option Text → Option ℕ
 number_by = option_map (λ text. digits_value 10 (without_leading_plus text))
@@ -182,7 +193,8 @@ asked_by (Some (name, rows)) =
     else if bytes_eq name (codes "serve") then option_map Serve (serving_with value)
     else if bytes_eq name (codes "words") then Some Words
     else if bytes_eq name (codes "explain") then option_map Explain (series_with value)
-    else if bytes_eq name (codes "preview") then option_map Preview (preview_with value) else None
+    else if bytes_eq name (codes "preview") then option_map Preview (preview_with value)
+    else if bytes_eq name (codes "check") then option_map Check (check_with value) else None
 asked_by None = None
 
 -- the run that the options of words ask for

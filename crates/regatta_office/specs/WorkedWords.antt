@@ -16,7 +16,7 @@ use Rattle.regatta_office.specs.Words.{Parsers, asked_of, regatta, with_rules, w
 use Rattle.regatta_office.specs.Words.{with_start}
 use Rattle.regatta_office.specs.declared.options.Asked.{Asked}
 use Rattle.regatta_office.specs.declared.options.Asked.TheVariants.{Replay, Serve, Words, Explain}
-use Rattle.regatta_office.specs.declared.options.Asked.TheVariants.{Preview}
+use Rattle.regatta_office.specs.declared.options.Asked.TheVariants.{Preview, Check}
 
 -- the series by default: A5.2, 20% for a Scoring Penalty, one score excluded from two races on,
 -- places by the finishing order, and no start file
@@ -90,6 +90,18 @@ pub runs : (parsers : Parsers) → Gives (asked_of parsers)
     ∷ (
       codes "preview" ∷ codes "--entries=e" ∷ codes "--role=finish" ∷ [],
       Some (Preview (record { series = record default { entries = Some (codes "e") }; role = Finish })),
+    )
+    -- what is wrong: of a journal file, or of a kept file in its place
+    ∷ (
+      codes "check" ∷ codes "--journal=j" ∷ codes "--entries" ∷ codes "e" ∷ [],
+      Some (Check (record {
+        series = record default { journal = Some (codes "j"); entries = Some (codes "e") };
+        keep = None;
+      })),
+    )
+    ∷ (
+      codes "check" ∷ codes "--keep" ∷ codes "k" ∷ codes "--handicap" ∷ [],
+      Some (Check (record { series = record default { handicap = true }; keep = Some (codes "k") })),
     ) ∷ [])
 unfolding clap_on_literals regatta with_rules with_start with_seats
 runs parsers = refl
@@ -116,7 +128,9 @@ pub faults : (parsers : Parsers) → Gives (fault_of (regatta parsers))
     ∷ (codes "words" ∷ codes "--scp=3" ∷ [], UnknownArgument ∷ [])
     ∷ (codes "explain" ∷ codes "--print=csv" ∷ [], UnknownArgument ∷ [])
     ∷ (codes "preview" ∷ codes "--print=csv" ∷ [], UnknownArgument ∷ [])
-    ∷ (codes "explain" ∷ codes "--role=jury" ∷ [], UnknownArgument ∷ []) ∷ [])
+    ∷ (codes "explain" ∷ codes "--role=jury" ∷ [], UnknownArgument ∷ [])
+    ∷ (codes "explain" ∷ codes "--keep=k" ∷ [], UnknownArgument ∷ [])
+    ∷ (codes "check" ∷ codes "--socket=s" ∷ [], UnknownArgument ∷ []) ∷ [])
 unfolding clap_on_literals regatta with_rules with_start with_seats
 faults parsers = refl
 

@@ -1,11 +1,13 @@
 //! The program, from its command line to its status.
-ghost use Rattle.std.specs.Prelude.{◌≡◌, ◌⊎◌, ℕ, List, OnOk, map};
+ghost use Rattle.std.specs.Prelude.{◌≡◌, ◌⊎◌, ℕ, List, IfErr, OnOk, map};
 ghost use Rattle.std.specs.Io.KnownBytes.{Appends};
 ghost use Rattle.regatta_arguments.specs.Asking.{AskRun, AskText};
 ghost use Rattle.regatta_office.specs.Asked.{IsReplayOf};
-ghost use Rattle.regatta_office.specs.Runs.{AtMostRunOf, IsRunOf};
+ghost use Rattle.regatta_office.specs.Complaints.{status_of};
+ghost use Rattle.regatta_office.specs.Runs.{AtMostRunOf, FaultyRunOf, IsRunOf};
 ghost use Rattle.regatta_office.specs.Words.{Parsers, TakesWords, asked_by, regatta};
 
+use crate::checked::check_series;
 use crate::clients::serve_series;
 use crate::complaint::Complaint;
 use crate::explained::explain_series;
@@ -62,6 +64,8 @@ where
         (W.contents output.old) (W.contents output.new)) }
     ensures at_most { AtMostRunOf asked.now (R.remaining input.old) (W.contents output.old)
         (W.contents output.new) }
+    ensures faulty { IfErr result (λ why. status_of why ≡ 1 →
+        FaultyRunOf asked.now (W.contents output.old) (W.contents output.new)) }
 {
     match asked {
         Asked::Replay(options) => replay_series(rt, options, input, output),
@@ -69,6 +73,7 @@ where
         Asked::Words => print_words(rt.alloc(), output),
         Asked::Explain(series) => explain_series(rt, series, output),
         Asked::Preview(options) => preview_series(rt, options, input, output),
+        Asked::Check(options) => check_series(rt, options, output),
     }
 }
 
@@ -77,16 +82,18 @@ where
 /// `replay` answers the lines of the input and prints the final table, CSV or journal. `serve`
 /// answers the lines of clients at a new Unix socket, side by side. It prints the final table after
 /// the door has closed. `words` prints the vocabulary, `explain` the standing of a journal with the
-/// numbers and rules that lead to it, and `preview` what the lines of the input would do to it.
+/// numbers and rules that lead to it, `preview` what the lines of the input would do to it, and `check`
+/// what is wrong with the files that a series starts with.
 ///
 /// `--absent`, `--scp`, `--exclude` and `--handicap` are the series rules (RRS A5.2 and A5.3,
 /// 44.3(c), A2.1, A3). `--journal` and `--entries` name files to start from. `--print` is the form
-/// of a replay's final part, and `--role` the role of a preview's first line. `--socket` is the path of the socket, `--clients` the number of seats,
-/// and `--sessions` the number of clients after which the door closes. `--keep` names the file that
-/// keeps the journal of a serving.
+/// of a replay's final part, and `--role` the role of a preview's first line. `--socket` is the path
+/// of the socket, `--clients` the number of seats, and `--sessions` the number of clients after which
+/// the door closes. `--keep` names the file that keeps the journal of a serving, or a kept file to
+/// check.
 ///
-/// The status is 0 if everything was written, 1 if a file, the start or the input is at fault, 2 if
-/// the arguments or the rules are, and 3 if a device fails or memory runs out. If the status isn't
+/// The status is 0 if everything was written, and a check found nothing wrong. It is 1 if a file, the
+/// start or the input is at fault, 2 if the arguments or the rules are, and 3 if a device fails or memory runs out. If the status isn't
 /// 0, the program says why on `errors`.
 pub fn program<H, R, W, E>(
     rt: &H,
@@ -127,6 +134,15 @@ where
         asked
         × AtMostRunOf asked (R.remaining input.old) (W.contents output.old)
         (W.contents output.new)))) }
+
+    // At status 1 the arguments ask for a run, unless nothing is written, or help or the version. If it
+    // is a check, nothing is written, or the whole document, which says that something is wrong.
+    ensures faulty { result ≡ 1 → (output.new ≡ output.old) ⊎ ((parsers : Parsers)
+        × TakesWords parsers
+        × ((AskText (regatta parsers) (map (λ word. word.now) words.now)
+        × ((text : List ℕ) × Appends (W.contents output.old) (W.contents output.new) text))
+        ⊎ ((asked : _) × AskRun (regatta parsers) asked_by (map (λ word. word.now) words.now)
+        asked × FaultyRunOf asked (W.contents output.old) (W.contents output.new)))) }
 {
     let alloc = rt.alloc();
     let asked = match options_of(alloc, &*words) {

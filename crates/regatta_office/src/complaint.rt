@@ -46,6 +46,12 @@ pub enum Complaint {
     /// The kept file is longer than a journal may be.
     #[error("regatta: keep too long")]
     KeepTooLong,
+    /// Something is wrong with what was checked: the document says what.
+    #[error("regatta: check found faults")]
+    Unsound,
+    /// A journal file and a kept file are named to be checked, and not one of them.
+    #[error("regatta: check takes --keep or --journal, and not both")]
+    TwoFiles,
     /// Another office has the kept file.
     #[error("regatta: keep taken")]
     KeepTaken,
@@ -67,7 +73,7 @@ impl Complaint {
         ensures some { result ≢ 0 }
     {
         match self {
-            Complaint::Rules { .. } => 2,
+            Complaint::Rules { .. } | Complaint::TwoFiles => 2,
             Complaint::Entries { .. }
             | Complaint::Journal { .. }
             | Complaint::Start { .. }
@@ -75,7 +81,8 @@ impl Complaint {
             | Complaint::KeepJournal { .. }
             | Complaint::KeepDamaged { .. }
             | Complaint::KeepDiffers { .. }
-            | Complaint::KeepTooLong => 1,
+            | Complaint::KeepTooLong
+            | Complaint::Unsound => 1,
             Complaint::KeepTaken
             | Complaint::KeepFault(_)
             | Complaint::Device

@@ -3,6 +3,7 @@
 #![tactic(auto)]
 
 mod answers;
+mod checked;
 mod clients;
 mod command_line;
 mod complaint;

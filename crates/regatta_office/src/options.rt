@@ -7,12 +7,13 @@ ghost use Rattle.clap.specs.declared.builder.command.Command.TheViews.{out-Comma
 ghost use Rattle.clap.specs.declared.builder.value_parser.ValueParser.{ValueParser};
 ghost use Rattle.regatta_arguments.specs.Asking.{AskRun, AskText, IsText};
 ghost use Rattle.regatta_office.specs.Words.{Parsers, TakesForms, TakesRoles, TakesWords};
-ghost use Rattle.regatta_office.specs.Words.{asked_by, number_by, preview_with, role_by};
+ghost use Rattle.regatta_office.specs.Words.{asked_by, check_with, number_by, preview_with, role_by};
 ghost use Rattle.regatta_office.specs.Words.{form_by, form_option as form_option_of};
 ghost use Rattle.regatta_office.specs.Words.{number_option as number_option_of, replay_with};
 ghost use Rattle.regatta_office.specs.Words.{serve as serve_of, serving_with};
 ghost use Rattle.regatta_office.specs.Words.{with_seats as with_seats_of};
-ghost use Rattle.regatta_office.specs.Words.{explain as explain_of, preview as preview_by};
+ghost use Rattle.regatta_office.specs.Words.{check as check_app, explain as explain_of};
+ghost use Rattle.regatta_office.specs.Words.{preview as preview_by};
 ghost use Rattle.regatta_office.specs.Words.{role_option as role_option_of};
 ghost use Rattle.regatta_office.specs.Words.{regatta as regatta_of, replay as replay_of};
 ghost use Rattle.regatta_office.specs.Words.{series_by, series_with};
@@ -94,6 +95,26 @@ impl<'a> Model for PreviewOptions<'a> {
     ghost view = { λ options. record { series = options.series; role = options.role } };
 }
 
+/// What `regatta check` is asked for: the series, and the path of a kept file in place of its journal
+/// file.
+#[derive(Drop)]
+pub(crate) struct CheckOptions<'a> {
+    pub(crate) series: SeriesOptions<'a>,
+    pub(crate) keep: Option<&'a str>,
+}
+
+impl<'a> Model for CheckOptions<'a> {
+    ghost use Rattle.std.specs.Option.{option_copied};
+    ghost use Rattle.regatta_office.specs.Asked.{CheckAsked};
+
+    ghost Value = { CheckAsked };
+
+    ghost view = { λ options. record {
+      series = options.series;
+      keep = option_copied options.keep;
+    } };
+}
+
 /// What `regatta serve` is asked for: the series, the path of the file that keeps it, the path of the
 /// socket, the number of seats, and the number of clients after which the door closes (0: never).
 #[derive(Drop)]
@@ -133,6 +154,8 @@ pub(crate) enum Asked<'a> {
     Explain(SeriesOptions<'a>),
     /// To print what the lines of the input would do.
     Preview(PreviewOptions<'a>),
+    /// To print what is wrong with the files that the series starts with.
+    Check(CheckOptions<'a>),
 }
 
 /// What the help says of the program.
@@ -168,6 +191,12 @@ static PREVIEW: &str =
     "Reads lines as `replay` does and prints what they would do, as JSON: the reply to each, and \
     which boats would move, from the standing of the start to that after the last line. Nothing is \
     kept. Example: regatta preview --role jury --journal saturday.txt < hearing.txt";
+
+/// What the help says of `check`.
+static CHECK: &str =
+    "Prints all that is wrong with a journal or a kept file, and with an entry list, as JSON: each \
+    line or row with its fault, and what the next opening would cut off. It changes nothing; the \
+    status is 1 if something is wrong. Example: regatta check --keep saturday.journal";
 
 static ABSENT: &str =
     "What boats score that did not start or finish, retired or were disqualified: \
@@ -215,6 +244,10 @@ static SESSIONS: &str = "After how many clients serving ends and the table is pr
 static KEEP: &str = "The file that keeps the journal: each reply is written once all that it was \
     made from is on the disk, so nothing that was answered is lost in a crash. The file is made if \
     it isn't there, and the same command goes on from it. Example: --keep saturday.journal";
+
+static CHECKED: &str =
+    "A kept file to check, as `regatta serve --keep` goes on from it, in place of a journal file. \
+    Example: --keep saturday.journal";
 
 /// The option of the final part.
 fn form_option<'a>(alloc: Global) -> Arg<'a>
@@ -342,6 +375,17 @@ fn preview<'a>(alloc: Global) -> Result<Command<'a>, AllocError>
     Ok(command)
 }
 
+/// `check` with its options.
+fn check<'a>(alloc: Global) -> Result<Command<'a>, AllocError>
+    ensures app { IfOk result (λ c. app_of c ≡ check_app) }
+    ensures local { IfOk result (λ c. (out-Command c).has_globals ≡ false) }
+{
+    let command = Command::new(alloc, "check").about(CHECK);
+    let command = with_start(alloc, with_rules(alloc, command)?)?;
+    let command = command.arg(option(alloc, "keep", "FILE", CHECKED))?;
+    Ok(command)
+}
+
 /// All that the program understands.
 fn regatta<'a>(alloc: Global) -> Result<Command<'a>, AllocError>
     ensures { IfOk result (λ c. (parsers : Parsers) × TakesWords parsers
@@ -353,6 +397,7 @@ fn regatta<'a>(alloc: Global) -> Result<Command<'a>, AllocError>
     let command = command.subcommand(words(alloc))?;
     let command = command.subcommand(explain(alloc)?)?;
     let command = command.subcommand(preview(alloc)?)?;
+    let command = command.subcommand(check(alloc)?)?;
     Ok(command)
 }
 
@@ -450,6 +495,17 @@ fn preview_asked<'a>(options: &ArgMatches<'a>) -> Option<PreviewOptions<'a>>
     })
 }
 
+/// What the options of `check` ask for.
+fn check_asked<'a>(options: &ArgMatches<'a>) -> Option<CheckOptions<'a>>
+    ensures { result ≡ check_with (first_value (found_of options.now)) }
+{
+    let series = series_of(options)?;
+    Some(CheckOptions {
+        series,
+        keep: options.get_str("keep"),
+    })
+}
+
 /// The number that an option has. `clap` accepts no other text.
 fn number_of(options: &ArgMatches<'_>, name: &str) -> Option<u32>
     ensures { IfSome result (λ number.
@@ -497,9 +553,13 @@ fn run_asked<'a>(matches: &ArgMatches<'a>) -> Option<Asked<'a>>
         let series = series_of(options)?;
         return Some(Asked::Explain(series));
     }
-    let options = matches.subcommand_matches("preview")?;
-    let preview = preview_asked(options)?;
-    Some(Asked::Preview(preview))
+    if let Some(options) = matches.subcommand_matches("preview") {
+        let preview = preview_asked(options)?;
+        return Some(Asked::Preview(preview));
+    }
+    let options = matches.subcommand_matches("check")?;
+    let check = check_asked(options)?;
+    Some(Asked::Check(check))
 }
 
 /// What the arguments ask for. `clap` accepts none without a subcommand.

@@ -1,5 +1,5 @@
 use Rattle.std.proofs.Common.{◌≡◌, List, Bor, ℕ, Option, Some, IfSome, map, inl, inr, refl, rules}
-use Rattle.std.proofs.Common.{subst}
+use Rattle.std.proofs.Common.{subst, sym, ◌∙◌}
 use Rattle.regatta_arguments.proofs.Asking.{either}
 use Rattle.regatta_arguments.specs.Asking.{AskRun}
 use Rattle.regatta_office.specs.Words.{asked_by, regatta}
@@ -16,6 +16,9 @@ returns-in-Err g c = record {
   at_most = either c.answer_arguments.ensures.at_most (λ same. same) (λ said.
       let asks = c.in-Err.ensures.text said.0 in
       (asks.0, asks.1, inl (asks.2, said.1)));
+  faulty = λ one. either c.answer_arguments.ensures.at_most (λ same. same) (λ said.
+      let asks = c.in-Err.ensures.text said.0 in
+      (asks.0, asks.1, inl (asks.2, said.1)));
 }
 
 -- they ask for a run, which is done
@@ -30,6 +33,7 @@ returns-in-Ok-run g c =
     record {
       done = λ zero. (asks.0, asks.1, inr (c.in-Some.asked, run, c.in-Ok-run.ensures.done));
       at_most = inr (asks.0, asks.1, inr (c.in-Some.asked, run, c.run.ensures.at_most));
+      faulty = λ one. absurd (let none : ◌≡◌ {A = ℕ} 0 1 = one in cc);
     }
 
 -- or which has a fault
@@ -45,5 +49,20 @@ returns-in-Err-run-clause-at_most g c =
         subst (λ (o : Option Asked). IfSome o (AskRun (regatta asks.0) asked_by
             (map {A = Bor (List ℕ)} {B = List ℕ} (λ word. word.now) c.args.words.now))) same asks.2,
         c.run.ensures.at_most,
+      ),
+    )
+
+pub returns-in-Err-run-clause-faulty : goal.returns-in-Err-run-clause-faulty
+returns-in-Err-run-clause-faulty g c = λ one.
+    let asks = c.in-Ok.ensures.asked in
+    let same : c.in-Ok.asked ≡ Some c.in-Some.asked = search rules in
+    inr (
+      asks.0,
+      asks.1,
+      inr (
+        c.in-Some.asked,
+        subst (λ (o : Option Asked). IfSome o (AskRun (regatta asks.0) asked_by
+            (map {A = Bor (List ℕ)} {B = List ℕ} (λ word. word.now) c.args.words.now))) same asks.2,
+        c.in-Err-run.ensures.faulty (sym c.status-status.ensures.value ∙ c.complain.ensures.one one),
       ),
     )

@@ -1,7 +1,7 @@
 use Rattle.std.proofs.Common.{refl, sym, ◌∙◌}
 use Rattle.clap.specs.Words.{found_of}
 use Rattle.clap.specs.declared.parser.matches.ArgMatches.TheViews.{out-ArgMatches}
-use Rattle.regatta_office.proofs.Asking.{explain_is, preview_is, replay_is, serving_is, words_is}
+use Rattle.regatta_office.proofs.Asking.{check_is, explain_is, preview_is, replay_is, serving_is, words_is}
 use Rattle.regatta_office.proofs.options.run_asked.Goals as goal
 
 -- a replay
@@ -36,8 +36,17 @@ returns-in-Some-subcommand_matches-3 c =
     (sym c.in-Some-subcommand_matches-3.ensures.rows) (sym c.in_ok-series.was ∙ c.series_of.ensures)
 
 -- what lines would do
+pub returns-in-Some-subcommand_matches-4 : goal.returns-in-Some-subcommand_matches-4
+returns-in-Some-subcommand_matches-4 c =
+    preview_is (out-ArgMatches c.args.matches.now).subcommand
+    (found_of c.in-Some-subcommand_matches-4.options.now) c.in_ok-preview.preview
+    (sym (c.in-Some-subcommand_matches-4.ensures.found.0 refl))
+    (sym c.in-Some-subcommand_matches-4.ensures.rows)
+    (sym c.in_ok-preview.was ∙ c.preview_asked.ensures)
+
+-- what is wrong
 pub returns : goal.returns
 returns c =
-    preview_is (out-ArgMatches c.args.matches.now).subcommand (found_of c.in_ok-options.options.now)
-    c.in_ok-preview.preview (sym (c.in_ok-options.ensures.found.0 refl))
-    (sym c.in_ok-options.ensures.rows) (sym c.in_ok-preview.was ∙ c.preview_asked.ensures)
+    check_is (out-ArgMatches c.args.matches.now).subcommand (found_of c.in_ok-options.options.now)
+    c.in_ok-check.check (sym (c.in_ok-options.ensures.found.0 refl))
+    (sym c.in_ok-options.ensures.rows) (sym c.in_ok-check.was ∙ c.check_asked.ensures)
