@@ -32,11 +32,10 @@ DECIDED = "Command Line AskedLine DeskLine Step Change Update Reply".split()
 
 # Module: calls in it, in the order in which a FINISH first comes to the module.
 PATH = """
-service/sessions: take_all answer_line answer ask_desk
+service/sessions: take_all answer_line answer do_command at_once
 service/connection: read write
 service/stopping: read_patiently read_once
 talk/cutter: take
-talk/asked: of
 office/stopping_gate: before after
 terms/reading: read_line read_words read_command read_verb command_after_verb with_two read_race
 terms/words: first_words
@@ -47,9 +46,9 @@ desk/desk: board confirm cover tell run append commit_and_publish note_published
 desk/told: cover_all known_of learn
 desk/pass: begins entry
 watch/history: copy_of cover
-keeper/sealed: answer cover
+keeper/sealed: of_desk cover
 keeper/reply_room: with_text_of
-desk/answers: reply
+desk/answers: command_reply
 board/board: prepare stage commit touched row
 board/ledger: update
 board/kept: number placed is_scored put_sheet
@@ -65,7 +64,6 @@ board/scoring: remade_lines touched
 board/column: made_column
 watch/publication: new absorb_first
 watch/publisher: append publish
-talk/replies: reply_of
 keeper/covers: need_of_all cover
 keeper/mark: of_desk catch_up
 talk/room: write_fitting

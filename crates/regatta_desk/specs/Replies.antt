@@ -8,6 +8,7 @@ use Rattle.regatta_terms.specs.declared.reply.Refusal.{Refusal}
 use Rattle.regatta_terms.specs.declared.reply.Refusal.TheVariants.{NoMemory}
 use Rattle.regatta_terms.specs.declared.reply.Reply.{Reply}
 use Rattle.regatta_terms.specs.declared.reply.Reply.TheVariants.{Closed, Refused}
+use Rattle.regatta_terms.specs.declared.sail.Sail.{Sail}
 use Rattle.regatta_scores.specs.declared.table.Standing.{Standing}
 use Rattle.regatta_scores.specs.AppendixA.{IsAppendixA}
 use Rattle.regatta_scores.specs.Journal.{Journal}
@@ -45,14 +46,25 @@ pub record RefusedCommand (rules : RulesParts) (role : Role) (command : Command)
   pub pass : after ≡ before
   pub answered : reply ≡ reply_of (Err why)
 
+-- a command: it was run, or refused
+abbrev pub DidCommand : RulesParts → Role → Command → DeskValue → DeskValue → PassValue → PassValue
+    → Reply → Type 0
+DidCommand rules role command old new before after reply =
+    RanCommand rules role command old new before after reply
+    ⊎ RefusedCommand rules role command old new before after reply
+
+-- a boat that was looked up: nothing has changed
+abbrev pub Ranked : RulesParts → Sail → DeskValue → DeskValue → PassValue → PassValue → Reply → Type 0
+Ranked rules sail old new before after reply =
+    (new ≡ old) × (after ≡ before) × (reply ≡ ranked (rank_of rules old.entries sail))
+
 -- the reply to a line that the desk answers, and what the line changes of desk and pass
 abbrev pub DeskReplies : RulesParts → DeskLine → Role → DeskValue → DeskValue → PassValue → PassValue
     → Reply → Type 0
 DeskReplies rules (Do command) role old new before after reply =
-    RanCommand rules role command old new before after reply
-    ⊎ RefusedCommand rules role command old new before after reply
+    DidCommand rules role command old new before after reply
 DeskReplies rules (Rank sail) role old new before after reply =
-    (new ≡ old) × (after ≡ before) × (reply ≡ ranked (rank_of rules old.entries sail))
+    Ranked rules sail old new before after reply
 
 -- the reply appended for such a line; for other lines nothing is done
 abbrev pub DeskAppends : RulesParts → AskedLine → Role → DeskValue → DeskValue → PassValue → PassValue

@@ -2,52 +2,46 @@
 ghost use Rattle.std.specs.Prelude.{◌≡◌, ◌≢◌, ◌+◌, ◌≤◌, Ok, IsOk, IfOk, OnOk, OnErr, All, vec_len};
 ghost use Rattle.std.specs.Prelude.{vec_capacity};
 ghost use mathlib.Core.List.{IsPrefix};
-ghost use Rattle.regatta_board.specs.Answers.{rank_of};
-ghost use Rattle.regatta_talk.specs.Replies.{asked_line, next_after, ranked as ranked_by};
-ghost use Rattle.regatta_talk.specs.Replies.{role_after};
+ghost use Rattle.regatta_talk.specs.Replies.{asked_line, next_after, role_after};
 ghost use Rattle.regatta_tables.specs.declared.replies.TheConstants.{REPLY_ROOM};
-ghost use Rattle.regatta_desk.specs.Replies.{DeskAppends, DeskReplies, PassAppends, Shows};
+ghost use Rattle.regatta_desk.specs.Replies.{DeskAppends, DidCommand, PassAppends, Ranked, Shows};
 
 use crate::desk::Desk;
 use crate::pass::Pass;
-use regatta_talk::{
-    AskedLine, DeskLine, Next, answer_apart, make_room, ranked, reply_of, write_fitting,
-};
-use regatta_terms::{Line, LineFault, Refusal, Reply, Role, Sail};
+use regatta_talk::{AskedLine, Next, answer_apart, make_room, ranked, write_fitting};
+use regatta_terms::{Command, Line, LineFault, Refusal, Reply, Role, Sail};
 use regatta_watch::{OfficeName, ShowFault};
 use std::alloc::AllocError;
 use std::sync::Wait;
 
 impl<N: OfficeName, R: Wait + Drop> Desk<N, R> {
-    fn rank_reply(&self, sail: Sail) -> Reply
-        ensures { result ≡ ranked_by (rank_of N.rules self.now.entries sail) }
-    {
-        ranked(self.board().rank(sail))
-    }
-
-    /// Does what a line asks of the desk: runs the command for the pass in this role, or looks the boat
-    /// up. Returns the reply. Each journal that the pass had been told of is a beginning of the one that
-    /// the desk had before.
-    pub fn reply<W: Wait>(
+    /// Runs the command for the pass in this role, and returns the reply. Each journal that the pass had
+    /// been told of is a beginning of the one that the desk had before.
+    pub fn command_reply<W: Wait>(
         &mut self,
         rt: &W,
         pass: &mut Pass<N>,
         role: Role,
-        line: DeskLine,
+        command: Command,
     ) -> Reply
-        ensures replied { DeskReplies N.rules line role self.old self.new pass.old pass.new result }
+        ensures replied { DidCommand N.rules role command self.old self.new pass.old pass.new
+            result }
         ensures told { All (λ j. IsPrefix j self.old.entries) pass.old.told }
     {
-        match line {
-            DeskLine::Do(command) => match self.run(rt, pass, role, command) {
-                Ok(receipt) => reply_of(Ok(receipt.answer())),
-                Err(why) => reply_of(Err(why)),
-            },
-            DeskLine::Rank(sail) => {
-                self.cover(pass);
-                self.rank_reply(sail)
-            }
+        match self.run(rt, pass, role, command) {
+            Ok(receipt) => Reply::Done(receipt.answer()),
+            Err(why) => Reply::Refused(why),
         }
+    }
+
+    /// The reply to RANK: looks the boat up. Each journal that the pass was told of is a beginning of the
+    /// desk's.
+    pub fn rank_reply(&mut self, pass: &mut Pass<N>, sail: Sail) -> Reply
+        ensures replied { Ranked N.rules sail self.old self.new pass.old pass.new result }
+        ensures told { All (λ j. IsPrefix j self.old.entries) pass.old.told }
+    {
+        self.cover(pass);
+        ranked(self.board().rank(sail))
     }
 
     /// Answers a line with a command or RANK, and appends the reply. A line that isn't for the desk gets
@@ -81,13 +75,18 @@ impl<N: OfficeName, R: Wait + Drop> Desk<N, R> {
             self.cover(pass);
             return Err(why);
         }
-        match AskedLine::of(Ok(line)) {
-            AskedLine::Desk(line) => {
-                let reply = self.reply(rt, pass, role, line);
+        match line {
+            Line::Do(command) => {
+                let reply = self.command_reply(rt, pass, role, command);
                 write_fitting(&reply, out);
                 Ok(())
             }
-            AskedLine::Show | AskedLine::Apart(_) => {
+            Line::Rank(sail) => {
+                let reply = self.rank_reply(pass, sail);
+                write_fitting(&reply, out);
+                Ok(())
+            }
+            Line::Show | Line::SetRole(_) | Line::Quit => {
                 self.cover(pass);
                 Ok(())
             }

@@ -1,3 +1,4 @@
+mod Asking
 pub mod Lowest
 mod Points
 mod Replying

@@ -1,8 +1,9 @@
 //! The session of one client, whose lines are answered one after another.
 ghost use Rattle.std.specs.Prelude.{◌≡◌, ◌≢◌, ◌+◌, [], false, Ok, Err, None, IfErr, IfSome};
 ghost use Rattle.std.specs.Prelude.{IsSome, OnOk};
-ghost use Rattle.regatta_talk.specs.Replies.{is_for_desk, next_after, role_after};
+ghost use Rattle.regatta_talk.specs.Replies.{asked_line, is_for_desk, next_after, role_after};
 ghost use Rattle.regatta_talk.specs.declared.asked.AskedLine.TheVariants.{Desk};
+ghost use Rattle.regatta_talk.specs.declared.asked.DeskLine.TheVariants.{Do, Rank};
 ghost use Rattle.regatta_service.specs.Ends.{ReadsNothing, SealsRefused, failures_so_far};
 ghost use Rattle.regatta_service.specs.Lines.{Prepared};
 ghost use Rattle.regatta_service.specs.LinesTaken.{DidLine, Took, WentOn, asked_from, asks, point};
@@ -12,8 +13,8 @@ use crate::gate::Gate;
 use regatta_desk::{Office, OfficeName, Pass};
 use regatta_keeper::{Covers, Outlet, ReplyRoom, Sealed, Uncovered};
 use regatta_streams::{Device, Sink, Source};
-use regatta_talk::{AskedLine, Cutter, DeskLine, Next};
-use regatta_terms::{Role, read_line};
+use regatta_talk::{ApartLine, Cutter, Next};
+use regatta_terms::{Command, Line, LineFault, Role, Sail, read_line};
 use std::alloc::Global;
 use std::sync::Wait;
 use std::thread;
@@ -45,13 +46,32 @@ pub enum End {
     NotKept,
 }
 
-/// Yields to other threads after a SHOW, so that a client who asks for sheets without a pause
-/// leaves the processors to those who send commands.
-fn yield_to_others(shown: bool) {
-    if shown {
-        for _ in 0..TURNS {
-            thread::yield_now();
+/// What a session does with a line: the sealed reply, whether it then goes on, and how often it yields
+/// to other threads first.
+#[derive(Drop)]
+struct Said<N: OfficeName, C> {
+    reply: Sealed<N, C>,
+    next: Next,
+    turns: u32,
+}
+
+impl<N: OfficeName, C> Said<N, C> {
+    /// A reply after which the session goes on at once.
+    fn at_once(reply: Sealed<N, C>) -> Said<N, C>
+        ensures { (result.reply ≡ reply) × (result.next ≡ Next.Go) }
+    {
+        Said {
+            reply,
+            next: Next::Go,
+            turns: 0,
         }
+    }
+}
+
+/// Yields to other threads that often.
+fn yield_to_others(turns: u32) {
+    for _ in 0..turns {
+        thread::yield_now();
     }
 }
 
@@ -67,21 +87,22 @@ struct Talk<'a, N: OfficeName, H: Wait + Drop, G: Gate> {
 }
 
 impl<N: OfficeName, H: Wait + Drop, G: Gate> Talk<'_, N, H, G> {
-    /// Takes the lock and has the desk answer a line, in the session's role. The pass is told of the
+    /// Takes the lock and has the desk do a command, in the session's role. The pass is told of the
     /// journal that the answer comes from.
     ///
     /// `None`, and nothing is done, if the desk's journal doesn't begin with the one that the pass
     /// has seen. No run has returned that; no clause says so.
-    fn ask_desk<C: Covers<N>, R: Wait>(
+    fn do_command<C: Covers<N>, R: Wait>(
         &self,
         rt: &R,
         room: ReplyRoom,
         pass: &mut Pass<N>,
         covers: &C,
-        line: DeskLine,
-    ) -> Option<Sealed<N, C>>
-        ensures answered { IfSome result (λ reply. Prepared N.rules (Desk line) self.now.role pass.old
-            pass.new reply.text reply.needs (C.book covers.now)) }
+        command: Command,
+    ) -> Option<Said<N, C>>
+        ensures answered { IfSome result (λ said. Prepared N.rules (Desk (Do command)) self.now.role
+            pass.old pass.new said.reply.text said.reply.needs (C.book covers.now)) }
+        ensures next { IfSome result (λ said. said.next ≡ Next.Go) }
         ensures unanswered { result ≡ None → pass.new ≡ pass.old }
     {
         let mut guard = self.office.desk(rt);
@@ -90,8 +111,32 @@ impl<N: OfficeName, H: Wait + Drop, G: Gate> Talk<'_, N, H, G> {
             return None;
         }
         desk.tell(pass);
-        let reply = Sealed::answer(room, rt, desk, pass, self.role, line, covers);
-        Some(reply)
+        let reply = desk.command_reply(rt, pass, self.role, command);
+        Some(Said::at_once(Sealed::of_desk(room, reply, desk, covers)))
+    }
+
+    /// The same for RANK: has the desk look the boat up.
+    fn rank<C: Covers<N>, R: Wait>(
+        &self,
+        rt: &R,
+        room: ReplyRoom,
+        pass: &mut Pass<N>,
+        covers: &C,
+        sail: Sail,
+    ) -> Option<Said<N, C>>
+        ensures answered { IfSome result (λ said. Prepared N.rules (Desk (Rank sail)) self.now.role
+            pass.old pass.new said.reply.text said.reply.needs (C.book covers.now)) }
+        ensures next { IfSome result (λ said. said.next ≡ Next.Go) }
+        ensures unanswered { result ≡ None → pass.new ≡ pass.old }
+    {
+        let mut guard = self.office.desk(rt);
+        let desk = &mut *guard;
+        if !desk.confirm(pass) {
+            return None;
+        }
+        desk.tell(pass);
+        let reply = desk.rank_reply(pass, sail);
+        Some(Said::at_once(Sealed::of_desk(room, reply, desk, covers)))
     }
 
     /// Does what a line asks for, and makes its reply, which is sealed. If there is no answer
@@ -102,32 +147,39 @@ impl<N: OfficeName, H: Wait + Drop, G: Gate> Talk<'_, N, H, G> {
         room: ReplyRoom,
         pass: &mut Pass<N>,
         covers: &C,
-        asked: AskedLine,
-    ) -> Option<(Sealed<N, C>, Next)>
-        ensures answered { IfSome result (λ said. Prepared N.rules asked self.old.role pass.old
-            pass.new said.0.text said.0.needs (C.book covers.now)) }
-        ensures role { IfSome result (λ _. self.new.role ≡ role_after asked self.old.role) }
-        ensures next { IfSome result (λ said. said.1 ≡ next_after asked) }
+        line: Result<Line, LineFault>,
+    ) -> Option<Said<N, C>>
+        ensures answered { IfSome result (λ said. Prepared N.rules (asked_line line) self.old.role
+            pass.old pass.new said.reply.text said.reply.needs (C.book covers.now)) }
+        ensures role { IfSome result (λ _.
+            self.new.role ≡ role_after (asked_line line) self.old.role) }
+        ensures next { IfSome result (λ said. said.next ≡ next_after (asked_line line)) }
         ensures none { result ≡ None → (pass.new ≡ pass.old) × (self.new.role ≡ self.old.role) }
 
         // Only the desk may leave a line unanswered.
-        ensures alone { is_for_desk asked ≡ false → IsSome result }
+        ensures alone { is_for_desk (asked_line line) ≡ false → IsSome result }
         ensures cutter { self.new.cutter ≡ self.old.cutter }
     {
-        match asked {
-            AskedLine::Desk(line) => {
-                let Some(reply) = self.ask_desk(rt, room, pass, covers, line) else {
-                    return None;
-                };
-                Some((reply, Next::Go))
+        match &line {
+            Ok(Line::Do(command)) => self.do_command(rt, room, pass, covers, *command),
+            Ok(Line::Rank(sail)) => self.rank(rt, room, pass, covers, *sail),
+            Ok(Line::Show) => Some(Said {
+                reply: Sealed::show(room, rt, self.office, pass, covers),
+                next: Next::Go,
+                turns: TURNS,
+            }),
+            Ok(Line::SetRole(role)) => {
+                let line = ApartLine::SetRole(*role);
+                Some(Said::at_once(Sealed::apart(room, &mut self.role, line)))
             }
-            AskedLine::Show => {
-                let reply = Sealed::show(room, rt, self.office, pass, covers);
-                Some((reply, Next::Go))
-            }
-            AskedLine::Apart(line) => {
-                let reply = Sealed::apart(room, &mut self.role, line);
-                Some((reply, line.next()))
+            Ok(Line::Quit) => Some(Said {
+                reply: Sealed::apart(room, &mut self.role, ApartLine::Quit),
+                next: Next::End,
+                turns: 0,
+            }),
+            Err(fault) => {
+                let line = ApartLine::Fault(*fault);
+                Some(Said::at_once(Sealed::apart(room, &mut self.role, line)))
             }
         }
     }
@@ -163,12 +215,11 @@ impl<N: OfficeName, H: Wait + Drop, G: Gate> Talk<'_, N, H, G> {
             return Err(End::Stopped);
         }
         let line = read_line(self.cutter.line());
-        let asked = AskedLine::of(line);
-        let shown = matches!(asked, AskedLine::Show);
-        let Some((reply, next)) = self.answer(rt, room, pass, &*covers, asked) else {
+        let Some(said) = self.answer(rt, room, pass, &*covers, line) else {
             return Err(End::Stopped);
         };
         self.cutter.clear();
+        let Said { reply, next, turns } = said;
         let Ok(reply) = reply.cover(rt, self.office, covers) else {
             return Err(End::NotKept);
         };
@@ -176,7 +227,7 @@ impl<N: OfficeName, H: Wait + Drop, G: Gate> Talk<'_, N, H, G> {
             return Err(End::WriteFault);
         }
         self.gate.after(pass.seat(), self.line);
-        yield_to_others(shown);
+        yield_to_others(turns);
         match next {
             Next::Go => Ok(reply.into_room()),
             Next::End => Err(End::Quit),

@@ -5,6 +5,7 @@ use Rattle.regatta_service.specs.Lines.{CutOff, Replied, Unsaid}
 use Rattle.regatta_service.proofs.Points.{stays_by_parts}
 use Rattle.regatta_service.proofs.Replying.{cut_off_by, replied_by, unsaid}
 use Rattle.regatta_service.proofs.sessions.Talk.answer_line.Goals as goal
+use Rattle.regatta_talk.specs.Replies.{asked_line}
 use Rattle.regatta_talk.specs.declared.asked.AskedLine.{AskedLine}
 use Rattle.regatta_service.specs.LinesTaken.{asks}
 
@@ -12,15 +13,10 @@ use Rattle.regatta_service.specs.LinesTaken.{asks}
 pub returns-then-not-before-clause-did : goal.returns-then-not-before-clause-did
 returns-then-not-before-clause-did g c = stays_by_parts _ _ _ _ _ _ _ _ refl refl refl refl
 
--- the desk's journal didn't begin with what the pass has seen
-pub returns-in_default-answer-clause-did : goal.returns-in_default-answer-clause-did
-returns-in_default-answer-clause-did g c =
-    stays_by_parts _ _ _ _ _ _ _ _ (search rules) (search rules) refl refl
-
 -- it wasn't covered
 pub returns-in_default-cover-clause-did : goal.returns-in_default-cover-clause-did
 returns-in_default-cover-clause-did g c =
-    let asked : c.of-asked.result ≡ asks c.args.self.now.cutter = search rules in (
+    let asked : asked_line c.read_line-line.result ≡ asks c.args.self.now.cutter = search rules in (
       subst (λ (a : AskedLine). Unsaid g.N.OfficeName.rules a c.args.self.now.role
           c.answer.new.self.role c.args.pass.now c.answer.new.pass) asked
           (unsaid c.in-Some.ensures.answered c.in-Some.ensures.role),
@@ -31,7 +27,7 @@ returns-in_default-cover-clause-did g c =
 -- it was covered, and the write failed
 pub returns-then-is_err-clause-did : goal.returns-then-is_err-clause-did
 returns-then-is_err-clause-did g c =
-    let asked : c.of-asked.result ≡ asks c.args.self.now.cutter = search rules in
+    let asked : asked_line c.read_line-line.result ≡ asks c.args.self.now.cutter = search rules in
     let cut : AppendsPrefix (g.S.Device.contents c.args.stream.now)
     (g.S.Device.contents c.write_reply.new.self) c.in-Ok.reply = search rules in
     subst (λ (a : AskedLine). CutOff g.N.OfficeName.rules a c.args.self.now.role c.answer.new.self.role
@@ -45,7 +41,7 @@ returns-then-is_err-clause-did g c =
 -- it was covered and written, and the session goes on
 pub returns-in-Go-clause-did : goal.returns-in-Go-clause-did
 returns-in-Go-clause-did g c =
-    let asked : c.of-asked.result ≡ asks c.args.self.now.cutter = search rules in (
+    let asked : asked_line c.read_line-line.result ≡ asks c.args.self.now.cutter = search rules in (
       search rules,
       subst (λ (a : AskedLine). Replied g.N.OfficeName.rules a c.args.self.now.role c.answer.new.self.role
           c.args.pass.now c.answer.new.pass (g.S.Device.contents c.args.stream.now)
@@ -57,7 +53,7 @@ returns-in-Go-clause-did g c =
 -- or it was QUIT
 pub returns-in-End-clause-did : goal.returns-in-End-clause-did
 returns-in-End-clause-did g c =
-    let asked : c.of-asked.result ≡ asks c.args.self.now.cutter = search rules in (
+    let asked : asked_line c.read_line-line.result ≡ asks c.args.self.now.cutter = search rules in (
       search rules,
       subst (λ (a : AskedLine). Replied g.N.OfficeName.rules a c.args.self.now.role c.answer.new.self.role
           c.args.pass.now c.answer.new.pass (g.S.Device.contents c.args.stream.now)
