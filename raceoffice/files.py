@@ -161,5 +161,5 @@ def stamp_of(path: str) -> object:
     """What is another whenever a file is; None if there is none."""
     with contextlib.suppress(OSError):
         found = os.stat(path)
-        return found.st_mtime_ns, found.st_size
+        return found.st_mtime_ns, found.st_size, found.st_ino
     return None

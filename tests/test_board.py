@@ -451,7 +451,9 @@ class Boards(helpers.Series):
         """Two series whose settings name the same folder for their pages, each in its way, have theirs in it, each beside the
         other; its first page is the list of both."""
         self.write(self.text("cup", "series.ini").replace("page = ", "page = ../site"), "cup", "series.ini")
-        self.make("fleet", page=os.path.join(self.here, "site"))
+        os.makedirs(os.path.join(self.here, "site"))
+        os.symlink("site", os.path.join(self.here, "linked"))
+        self.make("fleet", page=os.path.join(self.here, "linked", ""))
         said, _ = helpers.run("board", "cup", "fleet", "--once", cwd=self.here)
         self.assertEqual([os.path.exists(os.path.join(self.here, "site", name, "index.html")) for name in ("cup", "fleet")], [True, True])
         first = self.text("site", "index.html")

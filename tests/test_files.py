@@ -43,6 +43,15 @@ class Replaced(helpers.Series):
                     files.replace_whole(path, b"2", is_public)
                     self.assertEqual((mode(path), files.read_whole(path, 9)), (kept, b"2"))
 
+    def test_stamp(self) -> None:
+        """A file that was replaced has another stamp, also if the new one has as many bytes and came in the same moment."""
+        files.replace_whole(self.path, b"15:07:31")
+        moment, before = os.stat(self.path).st_mtime_ns, files.stamp_of(self.path)
+        self.assertEqual(files.stamp_of(self.path), before)
+        files.replace_whole(self.path, b"15:07:32")
+        os.utime(self.path, ns=(moment, moment))
+        self.assertNotEqual(files.stamp_of(self.path), before)
+
     def test_link(self) -> None:
         """A link of this account stays, and what it leads to is replaced; another's is replaced itself."""
         os.symlink("target", self.path)

@@ -328,8 +328,8 @@ class AsRecorded(OnWater):
         self.assertEqual(self.seen(1), [["NED12"], ["GBR7"], ["FRA9"]])
 
     def test_changed_since_it_was_shown(self) -> None:
-        """Nothing is sent of a swap, or of boats that go to another race, if these lines were made of another order. Who has
-        finished elsewhere meanwhile is no reason."""
+        """Nothing is sent of a swap, or of boats that go to another race, if these lines were made of another order. A boat
+        that has finished elsewhere meanwhile is no reason."""
         moved = ["FINISH 9 NED12", "FINISH 9 FRA9", "TIE 9 GBR33 FRA9", *(f"STRIKE {{}} {sail}" for sail in ("NED12", "FRA9", "GBR33"))]
         changes = (("BEFORE GBR7 FRA9", True, False), ("TIE GBR7 NED12", True, False), ("STRIKE NED12, FINISH NED12", True, True),
                    ("STRIKE GBR33, FINISH GBR33", False, True), ("BEFORE GBR7 NED12, FINISH IRL5", False, False))

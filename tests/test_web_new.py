@@ -185,6 +185,22 @@ class First(Web):
         self.serve()
         self.assertEqual(self.known(scorer, finish), [200, 200])
 
+    def test_names(self) -> None:
+        """No two classes are called the same on the pages, as when one fleet sails two series. The board has a series of any
+        name, also of that with which the office's own addresses begin."""
+        scorer, given = self.device("scorer"), {"class": "Dragon", "zone": "UTC"}
+        for name, title, group in (("cup", "Cup", "Dragon"), ("fleet", "Folkboats", "Folkboat"), ("wednesday", "Wednesdays", "Dragon"),
+                                   ("office", "Office Cup", "")):
+            made = scorer.ask("POST", "/office/scorer/new", {
+                "name": name, "text": ENGLISH.decode(), "settings": given | {"title": title, "class": group}})[1]
+            self.assertEqual((made["class"], made["open"]), (name, True), made)
+        classes = scorer.ask("GET", "/office/scorer/me")[1]["classes"]
+        self.assertEqual([one["group"] for one in classes], ["Dragon (cup)", "Folkboat", "Dragon (wednesday)", "office"])
+        helpers.until("the board", lambda: "Office Cup" in str(scorer.ask("GET", "/")[1]))
+        for page in ("index.html", "now.json", "results.csv"):
+            self.assertEqual([(name, scorer.ask("GET", f"/{name}/{page}")[0]) for name in ("cup", "office")], [("cup", 200), ("office", 200)])
+        self.assertEqual([scorer.ask("GET", f"/office/{path}")[0] for path in ("in", "nothing.html", "static/nothing.js")], [200, 404, 404])
+
     @staticmethod
     def known(*devices: Device) -> list[Any]:
         return [device.again().ask("GET", f"/office/{device.role}/me")[0] for device in devices]

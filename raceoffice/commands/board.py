@@ -231,7 +231,7 @@ def files_of(asked: argparse.Namespace, sources: list[ResultsSource]) -> list[Fi
     found: dict[str, list[ResultsSource]] = {}
     for source in sources:
         if source.settings.page:
-            found.setdefault(os.path.abspath(source.folder.file(source.settings.page)), []).append(source)
+            found.setdefault(os.path.realpath(source.folder.file(source.settings.page)), []).append(source)
     return [Files(folder, Site(several, asked.once)) for folder, several in found.items()]
 
 

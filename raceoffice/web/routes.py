@@ -136,6 +136,9 @@ class Routes:
                 device = self.gate.check_write(request, role.upper())
                 return await self.in_thread(self.about(device.role, rest), self.about(device.mark, rest), self.write, request,
                                             device.role, device, rest)
+            case _ if is_reading:
+                # A series may be called as these addresses begin: its pages are the board's.
+                return self.shown(request)
         raise Wrong(404)
 
     def about(self, name: str, rest: list[str]) -> str:
@@ -252,10 +255,10 @@ class Routes:
         return work(*values)
 
     def me(self, request: Request, role: str, device: Device) -> Values:
-        classes = [{"class": name, "title": one.room.folder.settings.title,
-                    "group": one.room.folder.settings.group or name,
+        groups = self.office.groups()
+        classes = [{"class": name, "title": one.room.folder.settings.title, "group": groups[name],
                     "handicap": one.room.folder.settings.handicap}
-                   for name, one in self.office.classes.items()]
+                   for name, one in self.office.classes.items() if name in groups]
         return {"role": role, "name": device.name, "token": self.gate.token(request, role), "now": now(),
                 "may": sorted(MAY[role]), "classes": classes}
 

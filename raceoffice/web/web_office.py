@@ -8,10 +8,12 @@ import threading
 from collections.abc import Callable
 from dataclasses import dataclass, field
 
+from raceoffice.characters import is_right_to_left
 from raceoffice.errors import Fault, Trouble
 from raceoffice.files import PRIVATE
 from raceoffice.remarks import remark, system_remark
 from raceoffice.results.http_answers import LOOPBACK, Board, addresses
+from raceoffice.results.snapshot import folder_shown, in_brackets, looking_alike
 from raceoffice.results.source import need_own_names
 from raceoffice.series.folder import Folder
 from raceoffice.series.unknown_finishers import places_by_race
@@ -211,6 +213,14 @@ class WebOffice:
     def keeps_any(self) -> bool:
         """Whether this process keeps an office."""
         return any(one.office.keeping for one in self.classes.values())
+
+    def groups(self) -> dict[str, str]:
+        """What each class is called on pages. One that looks as another does has its folder's name with it, as on the board."""
+        found, named = {name: one.room.folder.settings.group or name for name, one in self.classes.items()}, set[str]()
+        while alike := {[*found][at] for at in looking_alike([*found.values()], {})} - named:
+            found |= {name: found[name] + in_brackets(folder_shown(name), is_right_to_left(found[name])) for name in alike}
+            named |= alike
+        return found
 
     def writers(self) -> list[str]:
         """The devices that may still write to an office that this process keeps or has joined, with their roles. Nobody writes

@@ -384,6 +384,17 @@ class TwoClasses(WebTrial):
         jury.click("#boat")
         jury.click("dialog [data-sail=GBR33]")
         jury.click("#what-DSQ")
+        # Boats whose sails differ by a dash are told apart.
+        self.assertEqual(jury.run("import('/office/static/sails.js').then(({spaced}) => ['GER77', 'GER-77', 'K-9', '0123', '?1'].map(spaced))"),
+                         ["GER 77", "GER-77", "K-9", "0123", "?1"])
+        # Points that are none, and more than points: the page says what they have to be.
+        jury.click("#what-POINTS")
+        for typed in ("2.35", "-1", "2 3", "ALL 1"):
+            jury.type("#takes", typed)
+            jury.until("document.querySelector('#preview.bad')?.textContent.includes('this is no redress')"
+                       f" && document.querySelector('#preview').textContent.includes({json.dumps(typed.replace(' ', '_'))})")
+        jury.type("#takes", "")
+        jury.click("#what-DSQ")
         jury.click("[data-key=fleet]")
         jury.until("document.querySelector('#title').textContent.includes('Folkboats')")
         self.assertEqual((jury.count(".kept li"), jury.count("#preview"), jury.count("#stale"), jury.text("#boat")), (0, 0, 0, "Choose …"))

@@ -32,7 +32,8 @@ export function lineOf({race, sail, what, takes}) {
   if (isOther(what)) return `race ${race} ${sail} ${OTHERS[what].kind ?? what} ${takesOf(what) === "races" ? takes : dotted(takes)}`.trim();
   if (what === "CLEAR") return `CLEAR ${race} ${sail}`;
   if (what !== "POINTS") return `${LINES[what].first} ${race} ${sail} ${what}`;
-  return /^\d{1,3}([.,]\d)?$/.test(takes) ? `REDRESS ${race} ${sail} ${dotted(takes)}` : "";
+  // Whatever else is typed is one word: the office says what is wrong with it.
+  return `REDRESS ${race} ${sail} ${dotted(takes).replace(/\s+/g, "_")}`;
 }
 
 // Whether an average as redress has no race to count: she keeps her own score then. One of the races before counts those alone,

@@ -11,13 +11,13 @@ const GIVEN = ["RDG", "DUTY"];
 // A sail's letters and the rest: GBR and 101
 export function parts(sail) {
   const [, letters, rest] = /^(\D*)(.*)$/.exec(sail);
-  return {letters: letters.replace(/-$/, ""), rest};
+  return {letters, rest};
 }
 
 // A sail as it is read: GBR 101
 export function spaced(sail) {
   const {letters, rest} = parts(sail);
-  return letters && rest && !letters.includes("?") ? `${letters} ${rest}` : sail;
+  return letters && rest && !/[?-]/.test(sail) ? `${letters} ${rest}` : sail;
 }
 
 // The digits that somebody would press for a boat, or all of her sail if it has none
