@@ -6,9 +6,10 @@
 `raceoffice serve` serves a class by order, `cup`, and one by corrected time, `fleet`. Three finish boats, two scorers and a
 jury are processes that tap in both, as their pages do (killed_device.py): they keep each tap, send it again until it is
 answered, answer what they are asked, take back, take boats out of the journal, close and open the office. The web, the
-programs, both at once and the devices are killed at random, and just when a journal or a sheet of times was replaced. Whoever
-was killed is started again. In the end all send what they have left, and killed_judge.py compares what they were answered with
-the journals, the places, the sheets and the log. The status is 0 if nothing was wrong.
+programs, both at once and the devices are killed at random, just when a journal was replaced, and just when it has grown: then
+nobody may have noted the answer. Whoever was killed is started again. In the end all send what they have left, and
+killed_judge.py compares what they were answered with the journals, the places, the sheets and the log. The status is 0 if
+nothing was wrong.
 
 FOLDER keeps all files. Without it, they go unless something was wrong.
 """
@@ -50,6 +51,8 @@ DEVICES = {"f0": ("finish", 0), "f1": ("finish", 1), "f2": ("finish", 2), "s0": 
 # Seconds for the beginning, and for what is left in the end
 PATIENCE, LAST = 60.0, 240.0
 LOOK = 0.003
+# Seconds for which a line is waited for
+LINE = 4.0
 
 
 def east_of_afternoon() -> int:
@@ -150,15 +153,39 @@ class Soak:
         self.web.kill()
         self.web.wait()
 
-    def kill_program(self, name: str) -> bool:
-        """Kills the program of a class, if it runs; whether it did."""
+    def program_of(self, name: str) -> int:
+        """The process of a class's program; 0 if it doesn't run."""
         with contextlib.suppress(OSError, ValueError, IndexError):
             with open(os.path.join(self.top, name, "office", "pid"), encoding="ascii") as file:
                 number = int(file.read().split()[0])
             if os.path.samefile(f"/proc/{number}/cwd", os.path.join(self.top, name, "office")):
+                return number
+        return 0
+
+    def kill_program(self, name: str) -> bool:
+        """Kills the program of a class, if it runs; whether it did."""
+        number = self.program_of(name)
+        with contextlib.suppress(ProcessLookupError):
+            if number:
                 os.kill(number, signal.SIGKILL)
-                return True
-        return False
+        return number > 0
+
+    def kill_at_a_line(self) -> None:
+        """Kills the web, or a program, once a journal has grown: nobody may have noted the answer yet."""
+        name, is_web = self.chance.choice(CLASSES), self.chance.random() < 0.7
+        file, number = self.generations[name][-1].file, self.web.pid if is_web else self.program_of(name)
+        size, end = os.fstat(file).st_size, time.monotonic() + LINE
+        while os.fstat(file).st_size == size and time.monotonic() < end:
+            # A look that sleeps would come too late.
+            pass
+        if not number:
+            return
+        with contextlib.suppress(ProcessLookupError):
+            os.kill(number, signal.SIGKILL)
+        self.count("web at a line" if is_web else "program at a line")
+        if is_web:
+            self.web.wait()
+            self.serve()
 
     def count(self, what: str) -> None:
         self.kills[what] = self.kills.get(what, 0) + 1
@@ -166,7 +193,9 @@ class Soak:
     def kill(self) -> None:
         """Kills somebody, who is started again."""
         chance = self.chance.random()
-        if chance < 0.27:
+        if self.chance.random() < 0.4:
+            self.kill_at_a_line()
+        elif chance < 0.27:
             self.kill_web()
             self.count("web")
             if self.chance.random() < 0.2:
