@@ -10,8 +10,10 @@ A NAME is a module, a class or a check: test_board, test_board.Boards.test_files
 from __future__ import annotations
 
 import argparse
+import importlib
 import json
 import os
+import pkgutil
 import queue
 import subprocess
 import sys
@@ -301,6 +303,13 @@ def asked_of() -> argparse.Namespace:
     return asked
 
 
+def compile_all() -> None:
+    """Loads each module of the package, and so has it compiled with all that it loads."""
+    for module in pkgutil.walk_packages([os.path.join(os.path.dirname(HERE), "raceoffice")], "raceoffice."):
+        if not module.name.endswith(".__main__"):
+            importlib.import_module(module.name)
+
+
 def main() -> int:
     asked = asked_of()
     begun = time.monotonic()
@@ -313,6 +322,9 @@ def main() -> int:
         suite = loader.loadTestsFromNames(asked.name) if asked.name else discovered(loader, asked.quick)
         faults = [str(error) for error in loader.errors]
         checks = [check for check in checks_in(suite) if not check.id().startswith("unittest.loader.")]
+        subprocess.run([sys.executable, os.path.abspath(__file__), "--compile"], stdin=subprocess.DEVNULL, check=True)
+        # From now on nobody adds to it: a process whose files may not grow would leave a part of one, which none can read.
+        os.environ["PYTHONDONTWRITEBYTECODE"] = "1"
         tried = try_all(parts_of(checks), asked.workers)
     return summary(tried, faults, time.monotonic() - begun)
 
@@ -320,5 +332,7 @@ def main() -> int:
 if __name__ == "__main__":
     if sys.argv[1:] == ["--work"]:
         work()
+    elif sys.argv[1:] == ["--compile"]:
+        compile_all()
     else:
         sys.exit(main())

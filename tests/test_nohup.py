@@ -34,7 +34,7 @@ class Nohup(helpers.Series):
         for closed in (">&-", "<&-", "2>&-", "<&- >&- 2>&-"):
             page = os.path.join(self.here, f"page{len(closed)}")
             command = f'"$@" board cup --page "{page}" --once {closed}'
-            done = subprocess.run(["sh", "-c", command, "sh", *helpers.COMMAND], cwd=self.here, check=False, timeout=60)
+            done = subprocess.run(["sh", "-c", command, "sh", *helpers.COMMAND], cwd=self.here, check=False, timeout=helpers.PATIENCE)
             self.assertEqual((done.returncode, os.path.exists(os.path.join(page, "index.html"))), (0, True), closed)
 
     def ways_of_hang_up(self, process: int) -> tuple[bool, ...]:

@@ -540,7 +540,8 @@ class Shares(unittest.IsolatedAsyncioTestCase):
 
     async def test_heads(self) -> None:
         """A request that isn't whole in time is cut off; a connection that waits for news stays."""
-        with mock.patch("raceoffice.web.requests.HEAD_TIME", 0.1):
+        # A second, so that a whole one is there in time on a slow machine, too
+        with mock.patch("raceoffice.web.requests.HEAD_TIME", 1.0):
             self.assertEqual(await self.news("127.0.0.2"), b"HTTP/1.1 200 OK")
             self.assertEqual(await asyncio.wait_for(self.asked("127.0.0.2", b"GET /live HTT"), helpers.PATIENCE / 2), b"")
         self.assertEqual(len(self.hub.waiting), 1)

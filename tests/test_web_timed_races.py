@@ -154,10 +154,11 @@ class Races(Prepared):
             self.close()
             self.serve()
             ann, bob = ann.again(), bob.again()
-        start = int(time.time()) * 1000
-        ann.tap("START 1", at=start + 1000, was="")
-        self.assertEqual(bob.tap("FINISH 1 GBR101", at=start + 61_000)[1]["outcome"], "taken")
-        self.assertEqual(self.journal()[-1], "FINISH TIME 1 GBR101 60")
+        # At noon of tomorrow: no day ends in between, whatever the time is now.
+        start = ((int(time.time()) // 86_400 + 1) * 86_400 + 43_200) * 1000
+        ann.tap("START 1", at=start, was="")
+        self.assertEqual(bob.tap("FINISH 1 GBR101", at=start + 3_600_000)[1]["outcome"], "taken")
+        self.assertEqual(self.journal()[-1], "FINISH TIME 1 GBR101 3600")
 
     def test_times_of_a_race_that_counts(self) -> None:
         """The times of a sheet that go to another race, which counts: it is asked before anything is sent."""

@@ -238,6 +238,20 @@ class All(Scripts):
         self.assertEqual(self.ran("tests/run.py", "/bin/true", "test_one.Two.test_first"),
                          ("1 passed, 0 failed", 0))
 
+    def test_run_compiled(self) -> None:
+        """A process whose files may not grow leaves no half of a compiled module to the checks after it."""
+        self.copy("run.py")
+        self.write("late.py", "NUMBERS = " + repr([[at] for at in range(1000)]))
+        self.write("test_one.py", """
+            import os, subprocess, sys, unittest
+            class One(unittest.TestCase):
+                def test_limited(self): self.asked("trap '' XFSZ; ulimit -f 1; ")
+                def test_others(self): self.asked("")
+                def asked(self, before):
+                    command = before + f"'{sys.executable}' -c 'import late'"
+                    self.assertEqual(subprocess.run(["sh", "-c", command], cwd=os.path.dirname(__file__)).returncode, 0)""")
+        self.assertEqual(self.ran("tests/run.py", "/bin/true", "--workers", "1"), ("2 passed, 0 failed", 0))
+
     def write(self, name: str, text: str) -> None:
         with open(os.path.join(self.here, "tests", name), "w", encoding="ascii") as file:
             file.write(textwrap.dedent(text))

@@ -186,7 +186,7 @@ class Pages(helpers.Series):
         return f"file://{self.here}/out/{names[0]}/index.html"
 
     def red(self, wanted: bool) -> None:
-        helpers.until(f"red {wanted}", lambda: self.browser.run(IS_RED) == wanted, 15)
+        helpers.until(f"red {wanted}", lambda: self.browser.run(IS_RED) == wanted)
 
     # On screens
 
@@ -350,7 +350,7 @@ class Pages(helpers.Series):
         for at, address in enumerate(("cup", "b%20%26%20c")):
             self.browser.open(f"http://127.0.0.1:{port}/{address}/")
             wanted = [[*way, "true" if at == here else None] for here, way in enumerate(named)]
-            helpers.until("the ways", lambda: self.browser.run(ways) == wanted, 15)
+            helpers.until("the ways", lambda: self.browser.run(ways) == wanted)
 
     def test_find(self) -> None:
         self.week()
@@ -592,7 +592,7 @@ class Pages(helpers.Series):
             threading.Thread(target=server.serve_forever).start()
             self.addCleanup(server.shutdown)
             self.browser.open(f"http://127.0.0.1:{server.server_port}/cup/index.html")
-            helpers.until("the time of making", lambda: self.browser.run("once.innerText"), 15)
+            helpers.until("the time of making", lambda: self.browser.run("once.innerText"))
             self.browser.run("document.dispatchEvent(new Event('visibilitychange'))")
             self.assertNotIn("/cup/now.json", asked)
             self.assertNotIn("GER", self.browser.run("document.querySelector('main').innerText"))

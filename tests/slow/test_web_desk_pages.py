@@ -441,7 +441,7 @@ class TwoClasses(WebTrial):
             scorer.until(f"document.querySelector('#title').textContent === '{title}' && !!document.querySelector('.tick button')")
             if name == "cup":
                 scorer.click(".tick button")
-            scorer.until(f"document.querySelector('.paper').textContent.startsWith('{paper}')", 20)
+            scorer.until(f"document.querySelector('.paper').textContent.startsWith('{paper}')")
         self.need_no_faults()
 
     def test_sent_again(self) -> None:

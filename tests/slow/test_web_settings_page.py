@@ -26,9 +26,8 @@ class SettingsPage(WebTrial):
         scorer.until("!!document.querySelector('#save') && !document.querySelector('#save').disabled")
         self.assertIn("No score would change", scorer.text("#effect"))
         self.assertTrue(scorer.run("document.querySelector('#absent-a52').checked"))
-        scorer.click("#absent-a53")
-        # Until its effect is there it can't be saved.
-        self.assertTrue(scorer.run("document.querySelector('#save').disabled"))
+        # Until its effect is there, which may be soon, it can't be saved.
+        self.assertTrue(scorer.run("document.querySelector('#absent-a53').click(), document.querySelector('#save').disabled"))
         scorer.until("!document.querySelector('#save').disabled")
         self.assertIn("A5.2 or A5.3", scorer.text("#effect .waits"))
         # She retired: 25 points for 24 boats (RRS A5.2), or 4 for the three that came (RRS A5.3).
