@@ -1,7 +1,9 @@
 """A headless Chromium, asked over a pipe: nothing but the standard library is needed."""
 from __future__ import annotations
 
+import atexit
 import base64
+import functools
 import json
 import os
 import select
@@ -132,3 +134,11 @@ class Browser:
         os.close(self.out)
         os.close(self.into)
         self.folder.cleanup()
+
+
+@functools.cache
+def own() -> Browser:
+    """The browser of this process, with one tab for all that it tries."""
+    found = Browser()
+    atexit.register(found.close)
+    return found

@@ -145,15 +145,10 @@ def season(races: int, seed: int, sails: list[str] | None = None) -> list[str]:
 
 @unittest.skipUnless(browser.program(), "Chromium isn't installed")
 class Pages(helpers.Series):
-    browser: Browser
-
-    @classmethod
-    def setUpClass(cls) -> None:
-        cls.browser = Browser()
-
-    @classmethod
-    def tearDownClass(cls) -> None:
-        cls.browser.close()
+    def setUp(self) -> None:
+        super().setUp()
+        self.browser = browser.own()
+        self.browser.size(1280)
 
     def week(self, state: str = "provisional") -> None:
         """The week's series in `dragon`."""

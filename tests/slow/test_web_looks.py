@@ -8,7 +8,7 @@ from collections.abc import Callable, Iterator
 from typing import Any
 
 import browser
-from devices import Chromium, Device
+from devices import Chromium, Device, chromium_of
 from raceoffice.remarks import ENGLISH, Remark, Value as RemarkValue, in_a_row, remark
 from raceoffice.session.dialogue import NOTE, Said, Value
 from raceoffice.session.question_words import question
@@ -126,16 +126,14 @@ class Looking(unittest.TestCase):
     chromium: Chromium
     office: StubOffice
 
-    @classmethod
-    def setUpClass(cls) -> None:
-        cls.chromium, cls.office = Chromium(), StubOffice()
-
-    @classmethod
-    def tearDownClass(cls) -> None:
-        cls.chromium.close()
-        cls.office.close()
-
     def setUp(self) -> None:
+        self.office = StubOffice()
+        self.addCleanup(self.office.close)
+        self.chromium = chromium_of(self)
+        self.begin()
+
+    def begin(self) -> None:
+        """Has the office be as it is at first."""
         self.office.classes, self.office.line = ["cup"], (503, {"words": "the office is away"})
         self.chromium.faults.clear()
 
@@ -341,7 +339,7 @@ class Looking(unittest.TestCase):
                     found = look(device)
                     self.assertFalse(found, found)
             device.close()
-            self.setUp()
+            self.begin()
 
 
 def all_said() -> list[Said]:

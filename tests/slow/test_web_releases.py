@@ -8,7 +8,7 @@ import tempfile
 import unittest
 
 import browser
-from devices import Chromium, Device
+from devices import Device, chromium_of
 from raceoffice.web.routes import STATIC, static_files
 from stub_office import StubOffice
 from web_office import SAILS
@@ -59,9 +59,9 @@ class Releases(unittest.TestCase):
     """A phone that keeps the page, and an office that gets other files."""
 
     def setUp(self) -> None:
-        self.chromium, self.office = Chromium(), StubOffice()
+        self.office = StubOffice()
         self.addCleanup(self.office.close)
-        self.addCleanup(self.chromium.close)
+        self.chromium = chromium_of(self)
         self.office.files = release("one")
         self.phone = Device(self.chromium, 390, 844, touch=True)
         self.phone.open(self.office.address("/office/finish/"))
