@@ -31,6 +31,11 @@ OLDER = f"""#!/bin/sh
 [ "$1" = check ] && echo "error: unrecognized subcommand 'check'" >&2 && exit 2
 exec {helpers.PROGRAM} "$@"
 """
+# A program that hangs when it is asked for one.
+HANGING = f"""#!/bin/sh
+[ "$1" = check ] && exec sleep 1000
+exec {helpers.PROGRAM} "$@"
+"""
 
 
 class Records(unittest.TestCase):
@@ -234,13 +239,16 @@ class Spoilt(helpers.Series):
                 self.assertEqual(calls.call_count, before + 1)
 
     def test_older(self) -> None:
-        """An older program says the first fault, and opens what it opened before."""
-        self.without_checks(OLDER)
-        for text, wanted in [(SOUND, []), (SOUND + CUT, []),
-                             (SOUND + "X\nY\n", ["Line 3 of journal.txt isn't a line of a journal: 'X'.", UNLIKE]),
-                             (SOUND + "1 2 FINISH TIME 1 A 7\n", [OTHER_RULES])]:
-            self.put(text)
-            self.assertEqual(self.told(), wanted)
+        """A program that is older than checks, or hangs, says the first fault, and opens what it opened before."""
+        first = ["Line 3 of journal.txt isn't a line of a journal: 'X'.", UNLIKE]
+        cases = [(SOUND, list[str]()), (SOUND + CUT, []), (SOUND + "X\nY\n", first),
+                 (SOUND + "1 2 FINISH TIME 1 A 7\n", [OTHER_RULES])]
+        for script in (OLDER, HANGING):
+            self.without_checks(script)
+            for text, wanted in cases:
+                self.put(text)
+                with self.subTest(script, text=text), mock.patch.object(checking, "PATIENCE", 0.3):
+                    self.assertEqual(self.told(), wanted)
 
     def test_whole_part(self) -> None:
         """What counts for a look that asks no program is what counts for the program."""

@@ -16,10 +16,10 @@ from raceoffice import system
 from raceoffice.errors import NoCheck, Trouble
 from raceoffice.program.messages import (EDITED, KEPT, OTHER_RULES, UNLIKE, refused_line, shown_line,
                                          unread_line)
-from raceoffice.program.replay import not_run, patience, program_said
+from raceoffice.program.replay import not_run, program_said
 from raceoffice.remarks import remark
 
-# Seconds that a look waits for what is torn, and after which it asks again a program that didn't say. A check of the longest
+# Seconds that the program may take, and after which a look asks it again if it didn't say what is torn. A check of the longest
 # file takes a tenth of one.
 PATIENCE, AGAIN = 10.0, 60.0
 # The files whose ends are remembered, for all classes of a computer.
@@ -63,10 +63,10 @@ class Check:
     end: End
 
 
-def checked(program: str, options: Sequence[str], data: bytes, seconds: float | None = None) -> Check:
+def checked(program: str, options: Sequence[str], data: bytes) -> Check:
     """What the program finds in a kept file with these bytes, under these rules. NoCheck if it can't be asked, or a Trouble
     if it takes no file of that kind."""
-    text = printed(program, options, data, seconds or patience(data))
+    text = printed(program, options, data)
     try:
         document = json.loads(text)
         faults = tuple(fault_of(one) for one in document["faults"])
@@ -80,12 +80,12 @@ def fault_of(one: Any) -> LineFault:
     return LineFault(int(one["line"]), int(one["at"]), int(one["bytes"]), str(one["fault"]), int(one.get("number", 0)))
 
 
-def printed(program: str, options: Sequence[str], data: bytes, seconds: float) -> str:
+def printed(program: str, options: Sequence[str], data: bytes) -> str:
     """What the program prints of a kept file with these bytes. Whoever writes it may go on meanwhile."""
     try:
         with system.lent_files({"--keep": data}) as (files, numbers):
             done = subprocess.run([program, "check", *options, *files], stdin=subprocess.DEVNULL, capture_output=True,
-                                  encoding="utf-8", errors="replace", timeout=seconds, pass_fds=numbers)
+                                  encoding="utf-8", errors="replace", timeout=PATIENCE, pass_fds=numbers)
     except (OSError, subprocess.TimeoutExpired) as cause:
         raise NoCheck(*not_run(program, cause).said) from cause
     said = done.stderr.strip()
@@ -139,7 +139,7 @@ class Remembered:
 def asked(program: str, data: bytes) -> End | Trouble:
     """The end of a kept file with these bytes, or why the program doesn't say it."""
     try:
-        return checked(program, [], data, PATIENCE).end
+        return checked(program, [], data).end
     except Trouble as trouble:
         return trouble
 
