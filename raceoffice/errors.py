@@ -62,6 +62,10 @@ class NoJournal(Trouble):
     """What a program or an office gave as its journal is none."""
 
 
+class NoCheck(Trouble):
+    """A program can't be asked what is wrong with a journal: it can't be run, doesn't end, or is older than that question."""
+
+
 class Fault(Trouble):
     """A fault of this package itself, of which only its trace says more."""
 

@@ -2,13 +2,16 @@
 takes what the package gives it of every other."""
 from __future__ import annotations
 
+import json
 import os
+import random
 import subprocess
 import unittest
 from unittest import mock
 
 import helpers
 from raceoffice.errors import Trouble
+from raceoffice.remarks import Remark
 from raceoffice.series import entry_list, headings, read_list
 
 GOOD = [b"Sail\nA\n", b"Boat,Sail\nX,gbr 7\n", b"\xef\xbb\xbfSail No\r\nA\r\nB\r\n",
@@ -60,6 +63,9 @@ HEADED = [
     ("N. velico,Nome timoniere,Nome barca,Circolo Nautico,Classe,Rating", ["Classe"]),
     ("Sail Number,Helm Name,Boat Name,Club Name,Portsmouth Number,,Name", ["column 6", "Name"]),
 ]
+
+# The program's words for what is wrong with a row.
+OF_ROWS = {"row-short": "BadRow", "row-sail": "BadSail", "row-twice": "Twice"}
 
 
 def listed(data: bytes) -> dict[str, entry_list.Boat]:
@@ -116,6 +122,38 @@ class Entries(unittest.TestCase):
             'list.csv, row 2 (C. Blanc): the sail "FRA/45" has a slash. A sail has 1 to 12 letters, digits '
             "and dashes.",
             "list.csv, row 3 (R. Shaw): there is no sail. A sail has 1 to 12 letters, digits and dashes."])
+
+    def checked(self, data: bytes) -> dict[int, str]:
+        """What the program finds wrong with the rows of a list, by their numbers."""
+        with helpers.folder() as name:
+            path = os.path.join(name, "list.csv")
+            with open(path, "wb") as file:
+                file.write(data)
+            printed = helpers.ran("check", "--entries", path)[0]
+        return {row["row"]: row["fault"] for row in json.loads(printed)["rows"]}
+
+    def test_as_the_program(self) -> None:
+        """Of random lists in the program's own form, with one column of sails, the rows are wrong that are wrong for the
+        program, for the same reason."""
+        seen: set[str] = set()
+        for number in range(helpers.trials(200)):
+            dice = random.Random(number)
+            sails = ["".join(dice.choices("AB1- a", k=dice.choice([1, 2, 2, 3, 11, 12, 13]))) for _ in range(4)]
+            odd = ["A_B", "\u00c4", "\u0131", "a\u00a0b", "", " ", "\u212a", "A/1"]
+            heads = dice.choice(["Boat,Sail", "Boat,Sail No", "Boat,sailnumber", "Boat,SAILNO"])
+            rows = [",".join(["W"] * dice.choice([0, 1, 1, 1, 1]) + [dice.choice([*sails * 4, *odd])]) or "," for _ in range(6)]
+            data = "".join(f"{row}\n" for row in [heads, *rows]).encode()
+            found = {}
+            for one in entry_list.problems(data, "list.csv"):
+                if one.kind == "list-row":
+                    fault = one.values["fault"]
+                    assert isinstance(fault, Remark) and isinstance(one.values["row"], int)
+                    found[one.values["row"]] = OF_ROWS[fault.kind]
+            with self.subTest(data):
+                self.assertEqual(found, self.checked(data))
+            seen |= {*found.values()}
+        if helpers.trials(200) >= 200:
+            self.assertEqual(seen, {*OF_ROWS.values()})
 
     def test_headings(self) -> None:
         """Each usual heading is known, and each column that isn't read is named."""

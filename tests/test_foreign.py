@@ -31,7 +31,7 @@ class Foreign(helpers.Series):
         folder = self.folder("exec sleep 1000")
         self.write("1 1 SCORER ENTER A\n", "foreign", "journal.txt")
         program, options = Program(folder), folder.settings.options()
-        with mock.patch("raceoffice.program.replay.PATIENCE", 0.1):
+        with mock.patch("raceoffice.program.replay.PATIENCE", 0.1), mock.patch("raceoffice.program.checking.PATIENCE", 0.1):
             calls: list[Callable[[], object]] = [program.start_faults, program.begin,
                                                  lambda: program.standing(options),
                                                  lambda: program.table(options)]

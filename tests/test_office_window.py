@@ -353,7 +353,7 @@ class Starts(Windows):
     def slow(self) -> str:
         """A series whose program never makes its socket."""
         program = os.path.join(self.here, "program")
-        self.write(f'#!/bin/sh\n[ "$1" = replay ] && exec {helpers.PROGRAM} "$@"\nexec sleep 1000\n', program)
+        self.write(f'#!/bin/sh\n[ "$1" != serve ] && exec {helpers.PROGRAM} "$@"\nexec sleep 1000\n', program)
         os.chmod(program, 0o755)
         return self.make("slow", program=program)
 

@@ -106,7 +106,8 @@ def remarks_made() -> dict[str, list[set[str]]]:
 # What makes a remark
 MAKERS = ("remark", "as_trouble")
 # The exceptions of which pages show what they say
-SHOWN = {"Trouble", "NotSent", "NotNow", "Gone", "NoSeat", "NotThere", "NoTable", "NoJournal", "Served"}
+SHOWN = {"Trouble", "NotSent", "NotNow", "Gone", "NoSeat", "NotThere", "NoTable", "NoJournal", "NoCheck",
+         "Served"}
 # What is for terminals alone: packages and modules, and single texts by how they begin
 TERMINALS = ("commands/", "typing_window/", "verify/", "series/sender.py", "results/server.py", "web/serving.py", "system.py",
              "exit_status.py")

@@ -79,10 +79,14 @@ class Words(unittest.TestCase):
             said = messages.start_fault("regatta: start refused 7 at 2\n", journal, "entries.csv")
             self.assertEqual(said[0], "Line 3 of journal.txt is refused: a boat that is named isn't "
                              "entered. It is '1 2 FINISH FINISH 1 B'.")
+            with open(journal, "wb") as binary:
+                binary.write(b"regatta 2\r\n1 1 SCORER\rENTER A\r\n1 2 FINISH FINISH 1 B\r\n")
+            again = messages.start_fault("regatta: start refused 7 at 2\n", journal, "entries.csv")
+            self.assertEqual(again, said)
             for fault, text in [
                     ("regatta: rules fault 3", "series.ini: exclude has to be none"),
                     ("regatta: entries fault 4 row 9", "entries.csv, row 9: the sail is in an"),
-                    ("regatta: journal fault 1 line 2", "isn't a line of a journal: '1 1 SCORER"),
+                    ("regatta: journal fault 1 line 2", r"isn't a line of a journal: '1 1 SCORER\rENTER A'."),
                     ("regatta: start refused 16 at 2", "disagree on handicap"),
                     ("regatta: keep taken", "Another office has journal.txt"),
                     ("regatta: keep fault", "Is the disk full?"),

@@ -1,11 +1,13 @@
 """What the program's answers and faults say, and how boats moved, in words."""
 from __future__ import annotations
 
+import contextlib
 import os
 import re
 from collections.abc import Mapping
 
-from raceoffice.files import text_if_any
+from raceoffice.errors import Trouble
+from raceoffice.files import LARGEST_SHOWN, read_whole
 from raceoffice.program.standing import Change, Row, Score
 from raceoffice.remarks import remark
 from raceoffice.wording import count, ordinal
@@ -61,6 +63,13 @@ KEPT = {
     "too long": remark("journal-long"),
     "damaged after line 0": remark("no-journal"),
 }
+# What to do about a journal with a line that is none, or is refused, and about one of another kind of series.
+UNLIKE = "Compare it with the copies in kept/."
+EDITED = f"Has somebody edited it? {UNLIKE}"
+OTHER_RULES = ("The journal and series.ini disagree on handicap: yes takes a journal with corrected times, and no takes one "
+               "with finishes.")
+# Letters of a line that are shown, and bytes that surely have them.
+SHOWN, BYTES = 80, 320
 DAMAGED, DIFFERS = "damaged after line ([1-9][0-9]*)", r"differs at (\d+)"
 
 
@@ -96,16 +105,12 @@ def start_fault(said: str, journal: str, entries: str) -> list[str]:
     if found := re.search(r"^regatta: entries fault (\d) row (\d+)", said, re.MULTILINE):
         return [f"{entries}, row {found[2]}: {LIST.get(int(found[1]), said.strip())}."]
     if found := re.search(r"^regatta: (?:keep )?journal fault (\d) line (\d+)", said, re.MULTILINE):
-        return [f"Line {found[2]} of {name} {JOURNAL.get(int(found[1]), 'is at fault')}: "
-                f"{line_of(journal, int(found[2]))!r}.", "Compare it with the copies in kept/."]
+        return [unread_line(name, int(found[2]), int(found[1]), line_of(journal, int(found[2]))), UNLIKE]
     if found := re.search(r"^regatta: start refused (\d+) at (\d+)", said, re.MULTILINE):
         if found[1] == "16":
-            return ["The journal and series.ini disagree on handicap: yes takes a journal with "
-                    "corrected times, and no takes one with finishes."]
-        place = int(found[2]) + line_of(journal, 1).startswith("REGATTA")
-        return [f"Line {place} of {name} is refused: {refusal('NO ' + found[1])}. It is "
-                f"{line_of(journal, place)!r}.",
-                "Has somebody edited it? Compare it with the copies in kept/."]
+            return [OTHER_RULES]
+        place = int(found[2]) + (line_of(journal, 1).upper().split()[:1] == ["REGATTA"])
+        return [refused_line(name, place, int(found[1]), line_of(journal, place)), EDITED]
     if "regatta: input too long" in said:
         return [f"{name} or {entries} is longer than 1,048,576 bytes."]
     if "regatta: device fault" in said:
@@ -116,10 +121,27 @@ def start_fault(said: str, journal: str, entries: str) -> list[str]:
     return [f"The program says: {said.strip() or 'nothing'}."]
 
 
+def unread_line(name: str, place: int, number: int, text: str) -> str:
+    """Which line of a journal isn't one that the program reads, and why."""
+    return f"Line {place} of {name} {JOURNAL.get(number, 'is at fault')}: {text!r}."
+
+
+def refused_line(name: str, place: int, number: int, text: str) -> str:
+    """Which line of a journal is refused, and why."""
+    return f"Line {place} of {name} is refused: {refusal(f'NO {number}')}. It is {text!r}."
+
+
 def line_of(path: str, number: int) -> str:
-    """A line of a file, cut after 80 letters; empty if there is none."""
-    lines = text_if_any(path).split("\n")
-    return "".join(lines[number - 1:number])[:80]
+    """A line of a file as it is shown; empty if there is none."""
+    data = b""
+    with contextlib.suppress(Trouble):
+        data = read_whole(path, LARGEST_SHOWN)
+    return shown_line(b"".join(data.split(b"\n")[number - 1:number]))
+
+
+def shown_line(line: bytes) -> str:
+    """A line of a file as an editor shows it, without the carriage return at its end, and cut after 80 letters."""
+    return line.removesuffix(b"\r")[:BYTES].decode("utf-8", "replace")[:SHOWN]
 
 
 def rank_of(row: Row) -> str:

@@ -1,21 +1,23 @@
 """The program of a series, run to its end: whether it can be run, and what it makes of a journal."""
 from __future__ import annotations
 
+import contextlib
 import dataclasses
 import errno
 import os
 import subprocess
 
-from raceoffice.errors import Trouble
+from raceoffice.errors import NoCheck, Trouble
 from raceoffice.files import replace_whole
+from raceoffice.program.checking import checked, in_words
 from raceoffice.program.link import Sheet
 from raceoffice.program.messages import start_fault
 from raceoffice.program.replay import printed, ran, sheet_of
 from raceoffice.program.standing import Standing
 from raceoffice.remarks import Remark, remark
 from raceoffice.series import settings
-from raceoffice.series.entry_list import given
-from raceoffice.series.folder import Folder
+from raceoffice.series.entry_list import FAULTS, given
+from raceoffice.series.folder import Folder, entries_of
 from raceoffice.series.settings import Settings
 from raceoffice.terminal import sentence
 
@@ -56,9 +58,27 @@ class Program:
         return start_fault(said, self.folder.journal, self.folder.entries)
 
     def start_faults(self) -> list[str]:
-        """What the program finds wrong with the rules, the journal or the entry list, in words."""
+        """What the program finds wrong with the rules, the journal or the entry list, in words: of the journal each line, as
+        many as are named of a list."""
+        whole, torn = self.folder.parts()
+        if whole:
+            # An older program is asked for a replay, which names the first fault alone.
+            with contextlib.suppress(NoCheck):
+                wrong = self.journal_faults(whole + torn)
+                if wrong or entries_of(whole):
+                    return wrong
         tried = self.replay(self.folder.settings.options())
         return self.in_words(tried.stderr) if tried.returncode else []
+
+    def journal_faults(self, data: bytes) -> list[str]:
+        """What the program finds wrong with these bytes of journal.txt, in words. NoCheck if it can't be asked."""
+        try:
+            found = checked(self.path, self.folder.settings.options(), data)
+        except NoCheck:
+            raise
+        except Trouble as trouble:
+            return [*trouble.said]
+        return in_words(found.faults[:FAULTS], data, os.path.basename(self.folder.journal))
 
     def standing(self, options: list[str]) -> Standing:
         """The standing that these rules give."""
