@@ -89,8 +89,12 @@ class SheetOfRace:
         row = next((row for row in self.rows if plain(row[self.places["sail"]]) == sail), list[str]())
         held = {key: self.cell(row, key) if key in self.places else "" for key in (*TIMES, "code")}
         codes = [held[key] for key in (*TIMES, "code") if held[key].isalpha()] + [held["code"]]
-        times = {key: "" if held[key].isalpha() else held[key] for key in ("finish", "elapsed")}
-        return {**times, "code": codes[0].upper()}
+        return {**self.times_in(row), "code": codes[0].upper()}
+
+    def times_in(self, row: list[str]) -> dict[str, str]:
+        """The finish and the elapsed time in a row. A code may stand where one would."""
+        held = {key: self.cell(row, key) if key in self.places else "" for key in ("finish", "elapsed")}
+        return {key: "" if text.isalpha() else text for key, text in held.items()}
 
     def put(self, row: list[str], key: str, text: str) -> None:
         row += [""] * (len(self.heads) - len(row))
@@ -127,8 +131,12 @@ class SheetOfRace:
     @property
     def starts(self) -> list[str]:
         """The starts that it has, each once."""
-        found = [with_seconds("start", self.cell(row, "start")) for row in self.rows]
-        return list(dict.fromkeys(filter(None, found)))
+        return list(dict.fromkeys(filter(None, map(self.start_in, self.rows))))
+
+    def start_in(self, row: list[str]) -> str:
+        """The start in a row; empty if there is none. A code may stand where a start would."""
+        text = self.cell(row, "start")
+        return "" if text.isalpha() else with_seconds("start", text)
 
     @property
     def has_finishes(self) -> bool:
@@ -147,7 +155,8 @@ class SheetOfRace:
         for sail in sails:
             self.row(sail)
         for row in self.rows:
-            self.put(row, "start", with_seconds("start", text))
+            if not self.cell(row, "start").isalpha():
+                self.put(row, "start", with_seconds("start", text))
 
     def finish(self, sail: str, text: str, was: str = "") -> None:
         """Gives a boat her finish, or another one than she `was` given. NotSent if she has another one or a code."""
@@ -155,6 +164,7 @@ class SheetOfRace:
             raise NotSent(remark("finish-wrong", written=text[:20], wanted=FORMS["finish"][1]))
         row = self.row(sail)
         held = [self.cell(row, key) for key in ("finish", "elapsed", "code") if key in self.places]
+        held += [self.cell(row, "start")] if self.cell(row, "start").isalpha() else []
         if was and self.cell(row, "finish") not in (was, text):
             raise NotSent(remark("finish-changed", sail=sail, was=was, name=self.name))
         before = [one for one in held if one not in ("", text, was)]
@@ -175,9 +185,9 @@ class SheetOfRace:
             self.put(row, key, wanted[key])
 
     def take_finish(self, sail: str) -> bool:
-        """Takes a boat's finish away, or her elapsed time; whether she had one."""
+        """Takes a boat's finish away, or her elapsed time; whether she had one. A code in place of one stays."""
         row = self.row(sail)
-        had = [key for key in ("finish", "elapsed") if key in self.places and self.cell(row, key)]
+        had = [key for key, text in self.times_in(row).items() if text]
         for key in had:
             self.put(row, key, "")
         return bool(had)

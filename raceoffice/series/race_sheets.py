@@ -80,7 +80,8 @@ def rows_without(rows: Sequence[Sequence[str]], sail: str, has_commas: bool) -> 
             owed |= carried(cells, [places[key] for key in CARRIED if key in places])
         else:
             left.append(filled(cells, owed))
-            owed = {}
+            # Below a code that stands for a start the next boat has it.
+            owed = {at: text for at, text in owed.items() if cells[at].strip().isalpha()}
     return left
 
 
