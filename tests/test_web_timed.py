@@ -10,6 +10,7 @@ from typing import Any
 from unittest import mock
 
 import helpers
+from raceoffice.corrected.sheets import entries_of
 from raceoffice.corrected.write_sheet import SheetOfRace
 from raceoffice.errors import NotSent, Trouble
 from raceoffice.program.journal import Series
@@ -706,6 +707,20 @@ class Sheets(unittest.TestCase):
         self.assertEqual((sheet.starts, sheet.start_in(sheet.row("USA4"))), (["14:00:00"], ""))
         self.assertEqual(sheet.data.decode(), "Sail,Start,Finish,Code\nUSA4,DNS,,\nFRA9,14:00:00,DNF,\nGBR7,14:00:00,15:00:00,\n")
 
+    def test_no_start(self) -> None:
+        """What is no start, beside a code, isn't looked at: nobody gets it, neither the next boat nor one that is added below."""
+        text = "Sail,Start,Finish,Code,Laps\nUSA4,-,,DNS,x\n"
+        sheet = self.sheet(text)
+        self.assertEqual(sheet.starts, [])
+        sheet.finish("GBR7", "15:00:00")
+        self.assertEqual(sheet.data.decode(), text + "GBR7,,15:00:00,,\n")
+        sheet.need_mended()
+        rows, faults = entries_of(sheet.data, "race-3.csv")
+        self.assertEqual(([(row.sail, row.code, row.cells["start"], row.cells["laps"]) for row in rows], faults),
+                         ([("USA4", "DNS", "", ""), ("GBR7", "", "", "")], []))
+        sheet.code("USA4", "")
+        self.assertRaises(Trouble, sheet.need_mended)
+
     def test_row_taken(self) -> None:
         """A boat's row goes, and those below keep what they have from it; a sheet without rows goes, too."""
         for text, wanted in [
@@ -714,6 +729,10 @@ class Sheets(unittest.TestCase):
                 ("Sail,Start,Elapsed\nGBR7,14:00,3600\nUSA4,DNS,\nNED12,,3700\n", "Sail,Start,Elapsed\nGBR7,14:00,3600\nNED12,,3700\n"),
                 ("Sail,Start,Finish\nGBR7,14:00,15:00:00\nUSA4,14:10,15:00:00\nFRA9,DNF,\nIRL5,dns,\nNED12,,15:20:00\n",
                  "Sail,Start,Finish\nGBR7,14:00,15:00:00\nFRA9,DNF,\nIRL5,dns,\nNED12,14:10,15:20:00\n"),
+                ("Sail,Start,Finish,Code\nGBR7,14:00,15:00:00,\nUSA4,14:10,15:00:00,\nFRA9,-,,DNF\nNED12,,15:20:00,\n",
+                 "Sail,Start,Finish,Code\nGBR7,14:00,15:00:00,\nFRA9,-,,DNF\nNED12,14:10,15:20:00,\n"),
+                ("Sail,Start,Finish,Code\nGBR7,14:00,15:00:00,\nUSA4,-,,DNF\nNED12,,15:20:00,\n",
+                 "Sail,Start,Finish,Code\nGBR7,14:00,15:00:00,\nNED12,,15:20:00,\n"),
                 ("Sail,Elapsed\r\nGBR7,3600\r\n", "Sail,Elapsed\r\nGBR7,3600\r\n"),
                 ("Boat,Elapsed\nUSA4,3600\n", "Boat,Elapsed\nUSA4,3600\n"),
                 ("Sail,Elapsed\nUSA4,3600\n", "")]:

@@ -3,10 +3,9 @@ codes. Columns that somebody has added stay as they are."""
 from __future__ import annotations
 
 import os
-import re
 from collections.abc import Sequence
 
-from raceoffice.corrected.sheets import FORMS, TIMES, entries_of, fault_of_code, with_seconds
+from raceoffice.corrected.sheets import entries_of, fault_of_code, with_seconds
 from raceoffice.corrected.sheets import HEADS as COLUMNS
 from raceoffice.corrected.times import KEYS, ROUNDINGS, RULES, SYSTEMS
 from raceoffice.errors import NotSent, NotThere, Trouble
@@ -15,7 +14,7 @@ from raceoffice.remarks import Remark, remark
 from raceoffice.series.entry_list import plain
 from raceoffice.series.folder import Folder
 from raceoffice.series.headings import SHEET, columns
-from raceoffice.series.race_sheets import CARRIED, SHEETS, sheet_name
+from raceoffice.series.race_sheets import CARRIED, FORMS, SHEETS, TIMES, is_form, sheet_name
 from raceoffice.series.read_list import as_csv, bytes_of, table_of
 from raceoffice.series.settings import head_of, lines_of, rows_of
 
@@ -59,8 +58,9 @@ class SheetOfRace:
         return as_csv([self.heads, *self.rows])
 
     def need_mended(self) -> None:
-        """A Trouble if as many rows can't be read as before."""
-        left = entries_of(self.data, self.name)[1] if self.faults else []
+        """A Trouble if as many rows can't be read as before, or if any can't where all could: a code that is taken away may leave
+        what is no time."""
+        left = entries_of(self.data, self.name)[1]
         if left and len(left) >= len(self.faults):
             raise Trouble(*left)
 
@@ -134,9 +134,9 @@ class SheetOfRace:
         return list(dict.fromkeys(filter(None, map(self.start_in, self.rows))))
 
     def start_in(self, row: list[str]) -> str:
-        """The start in a row; empty if there is none. A code may stand where a start would."""
+        """The start in a row; empty if there is none. A code may stand where a start would, and of a boat with a code anything."""
         text = self.cell(row, "start")
-        return "" if text.isalpha() else with_seconds("start", text)
+        return with_seconds("start", text) if is_form("start", text) else ""
 
     @property
     def has_finishes(self) -> bool:
@@ -238,8 +238,3 @@ def with_rule(text: str, key: str, value: str) -> str:
     else:
         rows.insert(head_of("times", rows), f"{key} = {value}")
     return "\n".join(rows) + "\n"
-
-
-def is_form(key: str, text: str) -> bool:
-    """Whether a text is one of a column."""
-    return re.fullmatch(FORMS[key][0], text) is not None
