@@ -11,6 +11,8 @@ from raceoffice.series.entry_list import Boat
 
 # Helm, boat and club that have more letters fill a line of such a browser, so that they go on where the next row begins.
 LONG = 80
+# More commas, and signs that may be taken for them, than names have. To look at each takes some microseconds.
+SIGNS, MANY = re.compile(r"[^\w\s/-]"), 16
 # A row of an overall table has two at least: the net and a score. Signs of other writings look like a point, and letters like
 # digits.
 POINTS = re.compile(r"\d[.,\u0080-\U0010ffff]\d|\b[\dlIOo|]{1,3}[.,'\u0080-\U0010ffff][\dlIOo]\b")
@@ -22,17 +24,21 @@ COMMAS, STOPS, COLONS, POINTED = ",;", ".:'`", ":;", "\u00b7\u2022"
 RANK, SURE = re.compile(r"(?:[\dlIiOo|!ZzSsB]{1,3}|[^\W_\x00-\x7f])=?"), re.compile(r"[\dlI|]{1,3}=?")
 # The words before a comma that may be a sail, and the signs of one at most.
 WORDS, SAIL = 6, 14
+# How far from such a sign a sail and its rank may be.
+NEAR = 40
 # The small letters that look like capitals and digits.
 SMALL = frozenset("cikloposuvwxz" "абзкорсухчіјѕԁӏ" "οικνρυχ")
+# The last sign of Latin, Greek, Cyrillic and Armenian.
+WITH_CASE = "\u058f"
 # A sail with the letters of a nation, and what the list of classes has before its leaders.
 NATIONAL = re.compile(r"[^\W\d_]{3}-?\d[\w-]*")
 LEADER = re.compile(r"\b(?:leads|first)\s*(?:[:;\u0080-\U0010ffff]|(?=[a-z]{3} ?\d))")
 
 
 def is_like_a_row(boat: Boat, sails: Set[str]) -> bool:
-    """Whether the names of a boat are long, have points, a sail with its comma or its rank, or what names a leader."""
+    """Whether the names of a boat are long, have many signs, or points, a sail with its comma or its rank, or what names a leader."""
     names = " ".join(filter(None, (boat.helm, boat.name, boat.club)))
-    if len(names) > LONG:
+    if len(names) > LONG or len(SIGNS.findall(names)) > MANY:
         return True
     text = MARKS.sub("", in_one_form(row_text(boat)))
     return len(POINTS.findall(in_one_form(names))) > 1 or names_leader(text) or has_sail(text, sails) or has_rank(text, sails)
@@ -53,14 +59,19 @@ def has_sail(text: str, sails: Set[str]) -> bool:
     """Whether a text has a sail before a comma or behind a colon: that of a boat; one with the letters of a nation; or what looks
     like one behind a rank or a colon."""
     for at, sign in enumerate(text):
-        if sign.isalnum() and sign.isascii() or sign in " -/":
+        if sign.isalnum() and (sign.isascii() or not is_behind_sail(text[:at])) or sign in " -/":
             continue
         ends = text[at + 1:at + 2] in ("", " ")
-        if any(is_before_comma(one, before, sign, sails, ends) for one, before in endings(text[:at].split())):
+        if any(is_before_comma(one, before, sign, sails, ends) for one, before in endings(text[max(0, at - NEAR):at].split())):
             return True
-        if is_colon(sign) and any(is_behind_colon(one, sign, sails) for one in beginnings(text[at + 1:].split())):
+        if is_colon(sign) and any(is_behind_colon(one, sign, sails) for one in beginnings(text[at + 1:at + NEAR].split())):
             return True
     return False
+
+
+def is_behind_sail(text: str) -> bool:
+    """Whether a letter of another writing may be behind a sail with a digit, so that it looks like a comma."""
+    return text.rstrip()[-1:].isascii() and any(map(str.isdigit, text[-SAIL:]))
 
 
 def has_rank(text: str, sails: Set[str]) -> bool:
@@ -115,4 +126,9 @@ def is_behind_colon(text: str, sign: str, sails: Set[str]) -> bool:
 
 def is_like_a_sail(text: str) -> bool:
     """Whether a text has the form of a sail, or looks so: no small letters but those that look like capitals or digits."""
-    return 0 < len(text) <= SAIL and all(sign in SMALL or sign == "-" or sign.isalnum() and not sign.islower() for sign in text)
+    return 0 < len(text) <= SAIL and all(sign in SMALL or sign == "-" or sign.isalnum() and not is_small(sign) for sign in text)
+
+
+def is_small(sign: str) -> bool:
+    """Whether a letter is a small one, of writings that have others beside."""
+    return sign.islower() and sign <= WITH_CASE

@@ -24,7 +24,7 @@ from raceoffice.results.html.listing import listing
 from raceoffice.results.html.notice_board import results
 from raceoffice.results.html.overall import overall
 from raceoffice.results.html.race import one_race
-from raceoffice.results.html.sealing import Carried, seal_words
+from raceoffice.results.html.sealing import Carried, made, seal_words
 from raceoffice.results.snapshot import Snapshot, labelled, labels_of, looking_alike, told_apart
 from raceoffice.series.entry_list import Boat
 from raceoffice.series.settings import Settings, rows_of, settings_of
@@ -276,6 +276,12 @@ def warnings(rebuilt: Rebuilt, page: str) -> list[str]:
 
 def bewares(view: Snapshot) -> list[str]:
     """What of a verified page isn't what it seems, or what the scores don't have as they should."""
+    found = made(view, "bewares", lambda of: "\n".join(bewares_now(of)))
+    return found.split("\n") if found else []
+
+
+def bewares_now(view: Snapshot) -> list[str]:
+    """The same, looked for."""
     shown = view.settings
     texts = [view.name, shown.title, shown.group, shown.club, shown.reason]
     texts += [text for boat in view.boats.values() for text in (boat.helm, boat.name, boat.club)]
