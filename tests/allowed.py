@@ -41,7 +41,7 @@ ALLOWED: dict[str, dict[str, str]] = {
     "input": {"type": "search|checkbox", "id": IDS, "placeholder": "Find a sail or a name",
               "autocomplete": "off", "spellcheck": "false"},
     "table": {**MARK, "aria-labelledby": IDS}, "caption": {**MARK, "id": IDS}, "thead": {}, "tbody": {},
-    "tr": {"id": IDS, "data-find": FREE}, "td": MARK, "th": CELL,
+    "tr": {"id": IDS, "data-find": FREE, "valign": "top"}, "td": MARK, "th": CELL,
     "script": {"type": "application/json", "id": "proof"},
     "svg": {"width": "[0-9.]{1,8}rem", "height": "[0-9.]{1,8}rem", "viewbox": "0 0 [0-9]+ [0-9]+", "role": "img",
             "aria-label": "Chart: the rank of .* boats after each race. .*"},

@@ -503,14 +503,24 @@ class Forgeries(ForgedPages):
 
     def test_row_of_names(self) -> None:
         """Names that have points, a sail or a leader as a page has are said: a browser of texts may break a line before them. The
-        sail may be that of no boat, and a sign of another writing may look like a point or a comma. One number is no row, nor is
-        a sail without its comma."""
+        sail may be that of no boat, and letters and signs may look like digits, a point or a comma. One number is no row, nor is
+        a sail without its comma and its rank. A class may look like a leader, too."""
+        for text, is_odd in ("Leads: GBR 33", True), ("First Series: GBR 33", False):
+            status, said = self.said(self.forged("list", ("series", 0, "settings", "club"), text))
+            self.assertEqual((status, "names a leader as a page does" in said), (0, is_odd), said)
         for text, is_odd in (("x 1 GBR 101, A. Moss 2.0 1.0 1.0", True), ("2,0 \uff11\uff0e\uff10", True), ("Elan 3.1", False),
                              ("x 1 GBR 101, A. Moss 1.0", True), ("x 1 ned12\uff0c Al", True), ("NED 12 Friends", False),
                              ("Al, Bo, 101, Ned", False), ("Al " * 27, True), ("Al " * 18, False),
                              ("x 1 GBR 33, Jo", True), ("x GBR 33X, Jo", True), ("x 1= K 6, Jo", True), ("x G\u0412R 33, Jo", True),
                              ("x 1 GBR 7\u201a Jo", True), ("x 1 GBR 7 \u060c Jo", True), ("x 1 GBR 7\ua4f9 Jo", True), ("x 1 6\u0326 Jo", True),
                              ("x GBR 7; Jo", True), ("1\ua4f80 1\u06d40", True), ("x Leads: GBR 33", True), ("x first\u2236 33", True),
+                             ("x 1 GBR \u0417\u0417, Jo", True), ("x l GBR lOl, Jo", True), ("x 1 G B R 7, Jo", True), ("x l 33, Jo", True),
+                             ("x 1 K \u0431, Jo", True), ("x 1 GBR 33. Jo", True), ("x 1 GBR 33 Jo", True), ("l.O 1.O", True),
+                             (", Jo x 1 GBR \u0417\u0417", True), ("x Le\u0430ds: GBR 33", True), ("x Le\u0430ds\ua789 GBR 33", True),
+                             ("x Leads GBR 33", True), ("x 1 GBR \u10d5\u10d5, Jo", True), ("; x" * 17, True), ("; x" * 5, False),
+                             ("SMITH, John", False), ("Al \u2013 RYC", False), ("1st Sea Scouts, Ely", False),
+                             ("2 Fast 4 You", False), ("Zo\u00eb 2.0", False), ("R. Y. C. 1 A. Moss", False), ("Kestrel 3 Howth, IRL", False),
+                             ("\u0418\u0432\u0430\u043d \u0438 \u041f\u0451\u0442\u0440, \u041a\u043b\u0443\u0431", False),
                              ("First Light", False), ("Dehler 34, Blue", False), ("12 Metre, Blue", False), ("J\u00fcrgen 7, \u00d8rn", False),
                              ("\u00d3 R\u00edor\u00e1in 12 \u00c9lan", False), ("\u0418\u0432\u0430\u043d 12, \u041f\u0451\u0442\u0440", False)):
             with self.subTest(text=text):

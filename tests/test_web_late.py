@@ -112,6 +112,27 @@ class Late(OnWater):
             session.do("abandon 1")
             self.assertEqual(session.facts.commands[-2:], ["CLEAR 2 FRA9", "PENALTY 1 GBR7 ZFP"])
 
+    def test_abandoned_in_a_window_twice_the_same(self) -> None:
+        """A boat has ZFP twice, and the office goes between the two lines that give them back: the second one comes, too."""
+        session = self.window_bob.session
+        session.role = "SCORER"
+        session.office().ask("ROLE SCORER")
+        for line in ("MARK 1 GBR7 OCS", "PENALTY 1 GBR7 ZFP", "PENALTY 1 GBR7 ZFP"):
+            session.do(line)
+        exchange, given = session.exchange, list[str]()
+
+        def exchanged(line: str, unread: object = None) -> str:
+            given.extend([line] if line.startswith("PENALTY ") else [])
+            if len(given) == 2:
+                raise Trouble("the office has gone")
+            return exchange(line)
+        with mock.patch.object(session, "exchange", exchanged), self.assertRaises(Trouble):
+            session.do("abandon 1")
+        for _ in range(2):
+            session.look()
+            session.do("abandon 1")
+            self.assertEqual(session.facts.race("1").penalties, {"GBR7": ["ZFP", "ZFP"]})
+
     def test_abandoned_once_more(self) -> None:
         """A yes is about the race that was abandoned by then: if it is abandoned once more before that comes, it is asked again."""
         late = int(time.time() * 1000) - 60_000

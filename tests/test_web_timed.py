@@ -10,6 +10,7 @@ from typing import Any
 from unittest import mock
 
 import helpers
+from raceoffice.corrected.sheets import entries_of
 from raceoffice.corrected.write_sheet import SheetOfRace
 from raceoffice.errors import NotSent, Trouble
 from raceoffice.program.journal import Series
@@ -55,6 +56,16 @@ class Timed(Prepared):
 
     def sheet(self) -> list[str]:
         return self.text("cup", "times", "race-1.csv").splitlines()
+
+    def test_code_before_the_start(self) -> None:
+        """Somebody has written DNS as a boat's start, and no other start is there: taps go on, and she stays DNS."""
+        os.makedirs(os.path.join(self.here, "cup", "times"), exist_ok=True)
+        self.write("Sail,Start,Finish,Code\nNED12,DNS,,\n", "cup", "times", "race-1.csv")
+        ann = self.device("finish")
+        self.assertEqual([ann.tap(f"FINISH 1 {sail}")[0] for sail in ("GBR101", "NED12")], [200, 422])
+        ann.tap("START 1 00:00")
+        rows = {row.split(",")[0]: row.split(",")[1] for row in self.sheet()}
+        self.assertEqual((rows["NED12"], rows["GBR101"]), ("DNS", "00:00:00"))
 
     def test_race(self) -> None:
         """A race from its start to a code: elapsed time by the rating, 3,600 s x 1.000, 3,900 s x 0.900 and
@@ -682,12 +693,46 @@ class Sheets(unittest.TestCase):
         self.assertEqual(kinds, ["sheet-cell", "list-row", "list-row", "list-row", "list-row"])
         self.assertRaises(Trouble, self.sheet, "Boat,Time\nx,1\n")
 
+    def test_code_in_place_of_a_start(self) -> None:
+        """A code in the column of starts is no start: no other boat gets it, the start doesn't take its place, and its boat has no
+        finish beside it. Nor does a finish that is struck take a code with it."""
+        text = "Sail,Start,Finish,Code\nUSA4,DNS,,\nFRA9,,DNF,\n"
+        sheet = self.sheet(text)
+        self.assertEqual(sheet.starts, [])
+        sheet.finish("GBR7", "15:00:00")
+        self.assertRaises(NotSent, sheet.finish, "USA4", "15:00:00")
+        self.assertFalse(sheet.take_finish("FRA9"))
+        self.assertEqual(sheet.data.decode(), text + "GBR7,,15:00:00,\n")
+        sheet.start("14:00:00", ["GBR7", "USA4"])
+        self.assertEqual((sheet.starts, sheet.start_in(sheet.row("USA4"))), (["14:00:00"], ""))
+        self.assertEqual(sheet.data.decode(), "Sail,Start,Finish,Code\nUSA4,DNS,,\nFRA9,14:00:00,DNF,\nGBR7,14:00:00,15:00:00,\n")
+
+    def test_no_start(self) -> None:
+        """What is no start, beside a code, isn't looked at: nobody gets it, neither the next boat nor one that is added below."""
+        text = "Sail,Start,Finish,Code,Laps\nUSA4,-,,DNS,x\n"
+        sheet = self.sheet(text)
+        self.assertEqual(sheet.starts, [])
+        sheet.finish("GBR7", "15:00:00")
+        self.assertEqual(sheet.data.decode(), text + "GBR7,,15:00:00,,\n")
+        sheet.need_mended()
+        rows, faults = entries_of(sheet.data, "race-3.csv")
+        self.assertEqual(([(row.sail, row.code, row.cells["start"], row.cells["laps"]) for row in rows], faults),
+                         ([("USA4", "DNS", "", ""), ("GBR7", "", "", "")], []))
+        sheet.code("USA4", "")
+        self.assertRaises(Trouble, sheet.need_mended)
+
     def test_row_taken(self) -> None:
         """A boat's row goes, and those below keep what they have from it; a sheet without rows goes, too."""
         for text, wanted in [
                 ("Segel;Start;Ziel;Distanz;Notiz\nGBR 7;14:00;15:00:00;12,5;a\nUSA 4;14:10;15:00:00;9,5\nNED 12;;15:20:00;;b;c\n",
                  "Segel,Start,Ziel,Distanz,Notiz\nGBR 7,14:00,15:00:00,12.5,a\nNED 12,14:10,15:20:00,9.5,b,c\n"),
                 ("Sail,Start,Elapsed\nGBR7,14:00,3600\nUSA4,DNS,\nNED12,,3700\n", "Sail,Start,Elapsed\nGBR7,14:00,3600\nNED12,,3700\n"),
+                ("Sail,Start,Finish\nGBR7,14:00,15:00:00\nUSA4,14:10,15:00:00\nFRA9,DNF,\nIRL5,dns,\nNED12,,15:20:00\n",
+                 "Sail,Start,Finish\nGBR7,14:00,15:00:00\nFRA9,DNF,\nIRL5,dns,\nNED12,14:10,15:20:00\n"),
+                ("Sail,Start,Finish,Code\nGBR7,14:00,15:00:00,\nUSA4,14:10,15:00:00,\nFRA9,-,,DNF\nNED12,,15:20:00,\n",
+                 "Sail,Start,Finish,Code\nGBR7,14:00,15:00:00,\nFRA9,-,,DNF\nNED12,14:10,15:20:00,\n"),
+                ("Sail,Start,Finish,Code\nGBR7,14:00,15:00:00,\nUSA4,-,,DNF\nNED12,,15:20:00,\n",
+                 "Sail,Start,Finish,Code\nGBR7,14:00,15:00:00,\nNED12,,15:20:00,\n"),
                 ("Sail,Elapsed\r\nGBR7,3600\r\n", "Sail,Elapsed\r\nGBR7,3600\r\n"),
                 ("Boat,Elapsed\nUSA4,3600\n", "Boat,Elapsed\nUSA4,3600\n"),
                 ("Sail,Elapsed\nUSA4,3600\n", "")]:

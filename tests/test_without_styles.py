@@ -70,6 +70,14 @@ class WithoutStyles(ForgedPages):
             page = listing([dataclasses.replace(view, standing=dataclasses.replace(view.standing, rows=tuple(rows)))])
             self.assertEqual([line[0] for line in Unstyled(page).texts() if re.match("Leads|Helm", line[0])], wanted)
 
+    def test_rows(self) -> None:
+        """The cells of a row with names begin at one line, also where no style says so: a rank is beside the sail."""
+        for name, page in self.all_pages().items():
+            with self.subTest(name):
+                rows = [row for row in re.findall("<tr[^>]*>.*?</tr>", page, re.DOTALL) if 'class="who"' in row and "<td" in row]
+                self.assertEqual([row[:60] for row in rows if ' valign="top">' not in row.partition("<t")[2][:row.index(">")]], [])
+                self.assertEqual(len(rows) > 0, "listed" not in name and name != "list")
+
     def test_commas(self) -> None:
         """Also where a cell of a table is parted from the next by a blank alone, a comma ends each sail that something follows."""
         for name, page in self.all_pages().items():

@@ -5,29 +5,18 @@ finish without seconds is a fault: a spreadsheet may have cut them off.
 """
 from __future__ import annotations
 
-import re
 from dataclasses import dataclass
 
 from raceoffice.program.codes import CODES
 from raceoffice.remarks import Remark, remark
 from raceoffice.series.entry_list import fault_of, plain
 from raceoffice.series.headings import SHEET, columns
-from raceoffice.series.race_sheets import CARRIED
+from raceoffice.series.race_sheets import CARRIED, FORMS, TIMES, is_form
 from raceoffice.series.read_list import Table, as_csv, table_of, wrong_form
 
 # What the program reads of a sheet, in this order.
 HEADS = {"sail": "Sail", "start": "Start", "finish": "Finish", "elapsed": "Elapsed", "laps": "Laps",
          "distance": "Distance"}
-TIMES = ("start", "finish", "elapsed")
-CLOCK = "([01]?[0-9]|2[0-3]):[0-5][0-9]"
-# What each column takes, and how that is called.
-FORMS = {
-    "start": (f"{CLOCK}(:[0-5][0-9])?", remark("wanted-start")),
-    "finish": (f"{CLOCK}:[0-5][0-9]", remark("wanted-finish")),
-    "elapsed": ("[0-9]{1,6}(:[0-5][0-9]){0,2}", remark("wanted-elapsed")),
-    "laps": ("[1-9][0-9]?", remark("wanted-laps")),
-    "distance": (r"[0-9]{1,3}(\.[0-9]{1,2})?", remark("wanted-distance")),
-}
 # Codes for which the program has no line.
 DECIDED = ("DPI", "NSC", "PRP", "RDG", "SCP", "T1", "TLE", "ZFP")
 
@@ -54,6 +43,9 @@ def entry_of(table: Table, places: dict[str, int], number: int, row: list[str],
     codes += [text.upper() for text in [table.cell(row, places.get("code"))] if text]
     cells = {key: "" if key in TIMES and text.isalpha() else text for key, text in cells.items()}
     for key in CARRIED:
+        if codes and not is_form(key, cells[key]):
+            # Of a boat with a code nobody looks at it: so nobody below has it.
+            cells[key] = ""
         above[key] = cells[key] = cells[key] or above.get(key, "")
     return Entry(number, plain(table.cell(row, places.get("sail"))), codes[0] if codes else "", cells)
 
@@ -101,9 +93,9 @@ def fault_of_entry(entry: Entry, shown: dict[str, str], name: str) -> Remark | N
     """What is wrong with a row, and in which column; None if nothing is."""
     if fault := fault_of(entry.sail) or fault_of_code(entry.code):
         return fault_in_row(name, entry, fault)
-    for key, (form, wanted) in FORMS.items():
+    for key, (_, wanted) in FORMS.items():
         text = entry.cells[key]
-        if not entry.code and text and not re.fullmatch(form, text):
+        if not entry.code and text and not is_form(key, text):
             return remark("sheet-cell", name=name, row=entry.number, column=shown[key], written=text, wanted=wanted)
     return None
 

@@ -3,10 +3,9 @@ codes. Columns that somebody has added stay as they are."""
 from __future__ import annotations
 
 import os
-import re
 from collections.abc import Sequence
 
-from raceoffice.corrected.sheets import FORMS, TIMES, entries_of, fault_of_code, with_seconds
+from raceoffice.corrected.sheets import entries_of, fault_of_code, with_seconds
 from raceoffice.corrected.sheets import HEADS as COLUMNS
 from raceoffice.corrected.times import KEYS, ROUNDINGS, RULES, SYSTEMS
 from raceoffice.errors import NotSent, NotThere, Trouble
@@ -15,7 +14,7 @@ from raceoffice.remarks import Remark, remark
 from raceoffice.series.entry_list import plain
 from raceoffice.series.folder import Folder
 from raceoffice.series.headings import SHEET, columns
-from raceoffice.series.race_sheets import CARRIED, SHEETS, sheet_name
+from raceoffice.series.race_sheets import CARRIED, FORMS, SHEETS, TIMES, is_form, sheet_name
 from raceoffice.series.read_list import as_csv, bytes_of, table_of
 from raceoffice.series.settings import head_of, lines_of, rows_of
 
@@ -59,8 +58,9 @@ class SheetOfRace:
         return as_csv([self.heads, *self.rows])
 
     def need_mended(self) -> None:
-        """A Trouble if as many rows can't be read as before."""
-        left = entries_of(self.data, self.name)[1] if self.faults else []
+        """A Trouble if as many rows can't be read as before, or if any can't where all could: a code that is taken away may leave
+        what is no time."""
+        left = entries_of(self.data, self.name)[1]
         if left and len(left) >= len(self.faults):
             raise Trouble(*left)
 
@@ -89,8 +89,12 @@ class SheetOfRace:
         row = next((row for row in self.rows if plain(row[self.places["sail"]]) == sail), list[str]())
         held = {key: self.cell(row, key) if key in self.places else "" for key in (*TIMES, "code")}
         codes = [held[key] for key in (*TIMES, "code") if held[key].isalpha()] + [held["code"]]
-        times = {key: "" if held[key].isalpha() else held[key] for key in ("finish", "elapsed")}
-        return {**times, "code": codes[0].upper()}
+        return {**self.times_in(row), "code": codes[0].upper()}
+
+    def times_in(self, row: list[str]) -> dict[str, str]:
+        """The finish and the elapsed time in a row. A code may stand where one would."""
+        held = {key: self.cell(row, key) if key in self.places else "" for key in ("finish", "elapsed")}
+        return {key: "" if text.isalpha() else text for key, text in held.items()}
 
     def put(self, row: list[str], key: str, text: str) -> None:
         row += [""] * (len(self.heads) - len(row))
@@ -127,8 +131,12 @@ class SheetOfRace:
     @property
     def starts(self) -> list[str]:
         """The starts that it has, each once."""
-        found = [with_seconds("start", self.cell(row, "start")) for row in self.rows]
-        return list(dict.fromkeys(filter(None, found)))
+        return list(dict.fromkeys(filter(None, map(self.start_in, self.rows))))
+
+    def start_in(self, row: list[str]) -> str:
+        """The start in a row; empty if there is none. A code may stand where a start would, and of a boat with a code anything."""
+        text = self.cell(row, "start")
+        return with_seconds("start", text) if is_form("start", text) else ""
 
     @property
     def has_finishes(self) -> bool:
@@ -147,7 +155,8 @@ class SheetOfRace:
         for sail in sails:
             self.row(sail)
         for row in self.rows:
-            self.put(row, "start", with_seconds("start", text))
+            if not self.cell(row, "start").isalpha():
+                self.put(row, "start", with_seconds("start", text))
 
     def finish(self, sail: str, text: str, was: str = "") -> None:
         """Gives a boat her finish, or another one than she `was` given. NotSent if she has another one or a code."""
@@ -155,6 +164,7 @@ class SheetOfRace:
             raise NotSent(remark("finish-wrong", written=text[:20], wanted=FORMS["finish"][1]))
         row = self.row(sail)
         held = [self.cell(row, key) for key in ("finish", "elapsed", "code") if key in self.places]
+        held += [self.cell(row, "start")] if self.cell(row, "start").isalpha() else []
         if was and self.cell(row, "finish") not in (was, text):
             raise NotSent(remark("finish-changed", sail=sail, was=was, name=self.name))
         before = [one for one in held if one not in ("", text, was)]
@@ -175,9 +185,9 @@ class SheetOfRace:
             self.put(row, key, wanted[key])
 
     def take_finish(self, sail: str) -> bool:
-        """Takes a boat's finish away, or her elapsed time; whether she had one."""
+        """Takes a boat's finish away, or her elapsed time; whether she had one. A code in place of one stays."""
         row = self.row(sail)
-        had = [key for key in ("finish", "elapsed") if key in self.places and self.cell(row, key)]
+        had = [key for key, text in self.times_in(row).items() if text]
         for key in had:
             self.put(row, key, "")
         return bool(had)
@@ -228,8 +238,3 @@ def with_rule(text: str, key: str, value: str) -> str:
     else:
         rows.insert(head_of("times", rows), f"{key} = {value}")
     return "\n".join(rows) + "\n"
-
-
-def is_form(key: str, text: str) -> bool:
-    """Whether a text is one of a column."""
-    return re.fullmatch(FORMS[key][0], text) is not None

@@ -6,11 +6,13 @@ import contextlib
 import glob
 import itertools
 import os
+import re
 import time
 from collections.abc import Collection, Mapping, Sequence
 
 from raceoffice.errors import NotNow, Trouble
 from raceoffice.files import replace_whole
+from raceoffice.remarks import remark
 from raceoffice.series.copies import STAMP
 from raceoffice.series.entry_list import plain
 from raceoffice.series.folder import Folder
@@ -20,6 +22,16 @@ from raceoffice.series.read_list import as_csv, bytes_of, table_of
 SHEETS = "times"
 # An empty one is that of the boat above.
 CARRIED = ("start", "laps", "distance")
+# The columns of times, in which a code may stand; what each column takes, and how that is called.
+TIMES = ("start", "finish", "elapsed")
+CLOCK = "([01]?[0-9]|2[0-3]):[0-5][0-9]"
+FORMS = {
+    "start": (f"{CLOCK}(:[0-5][0-9])?", remark("wanted-start")),
+    "finish": (f"{CLOCK}:[0-5][0-9]", remark("wanted-finish")),
+    "elapsed": ("[0-9]{1,6}(:[0-5][0-9]){0,2}", remark("wanted-elapsed")),
+    "laps": ("[1-9][0-9]?", remark("wanted-laps")),
+    "distance": (r"[0-9]{1,3}(\.[0-9]{1,2})?", remark("wanted-distance")),
+}
 # What is recorded of a boat while she races.
 RECORDED = ("start", "finish", "elapsed", "laps", "code")
 
@@ -34,6 +46,11 @@ def races_with_sheet(folder: Folder) -> list[int]:
     if not os.path.isdir(folder.file(SHEETS)):
         return []
     return [race for race in range(1, 41) if os.path.exists(folder.file(sheet_name(race)))]
+
+
+def is_form(key: str, text: str) -> bool:
+    """Whether a text is one of a column."""
+    return re.fullmatch(FORMS[key][0], text) is not None
 
 
 def sheets_with(folder: Folder, sail: str) -> list[str]:
@@ -77,16 +94,22 @@ def rows_without(rows: Sequence[Sequence[str]], sail: str, has_commas: bool) -> 
         cells = [cell.replace(",", ".") if has_commas and at == places.get("distance") else cell for at, cell in enumerate(row)]
         cells += [""] * (len(rows[0]) - len(cells))
         if "sail" in places and plain(cells[places["sail"]]) == sail:
-            owed |= carried(cells, [places[key] for key in CARRIED if key in places])
+            owed |= carried(cells, places)
         else:
             left.append(filled(cells, owed))
-            owed = {}
+            # Below a cell that none takes anything from, as a code that stands for a start, the next boat has it.
+            given = carried(cells, places)
+            owed = {at: text for at, text in owed.items() if cells[at].strip() and at not in given}
     return left
 
 
-def carried(cells: Sequence[str], places: Sequence[int]) -> dict[int, str]:
-    """What a row has that one below may take from it. A code in place of a time isn't taken."""
-    return {at: cells[at].strip() for at in places if cells[at].strip() and not cells[at].strip().isalpha()}
+def carried(cells: Sequence[str], places: Mapping[str, int]) -> dict[int, str]:
+    """What a row has that one below may take from it. A code in place of a time isn't taken, nor what isn't of its form in the row
+    of a boat with a code."""
+    held = {key: cells[at].strip() for key, at in places.items()}
+    is_coded = bool(held.get("code")) or any(held.get(key, "").isalpha() for key in TIMES)
+    return {places[key]: held[key] for key in CARRIED if held.get(key) and not held[key].isalpha()
+            and (is_form(key, held[key]) or not is_coded)}
 
 
 def filled(cells: Sequence[str], owed: Mapping[int, str]) -> list[str]:

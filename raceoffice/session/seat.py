@@ -252,7 +252,8 @@ class Seat:
         """The lines of a race that was begun to be taken away: those that the journal has, and those that are left. A window
         that dies forgets them."""
         entries, lines = self.races_begun.get(race, (0, []))
-        since = [as_kept(line) for line in self.facts.commands[entries:]]
+        # Of two lines that are the same, as of a boat that has ZFP twice, one may have been sent: each is looked for behind the last.
+        since = map(as_kept, self.facts.commands[entries:])
         sent = list(itertools.takewhile(lambda line: as_kept(line) in since, lines))
         return sent, lines[len(sent):]
 

@@ -24,7 +24,7 @@ from raceoffice.results.html.listing import listing
 from raceoffice.results.html.notice_board import results
 from raceoffice.results.html.overall import overall
 from raceoffice.results.html.race import one_race
-from raceoffice.results.html.sealing import Carried, seal_words
+from raceoffice.results.html.sealing import Carried, made, seal_words
 from raceoffice.results.snapshot import Snapshot, labelled, labels_of, looking_alike, told_apart
 from raceoffice.series.entry_list import Boat
 from raceoffice.series.settings import Settings, rows_of, settings_of
@@ -32,6 +32,7 @@ from raceoffice.terminal import as_put_out, put_out, say_json, sentence, width
 from raceoffice.traces import guarded
 from raceoffice.verify import page_data
 from raceoffice.verify.own_words import USUAL, explained, laid_out, stale
+from raceoffice.verify.like_a_row import is_like_a_row, names_leader
 from raceoffice.verify.page_data import Kept, found_in, moment_of, still_to_come, wrong_confirmation
 from raceoffice.verify.visible import Seen, difference, first_of, place, standing_of
 from raceoffice.wording import count
@@ -40,17 +41,6 @@ CONFIRMED = re.compile('<!DOCTYPE html>\n<html lang="en" data-live="(?:yes|no)" 
                        'data-checked="([0-9T:+-]{0,40})" data-office="([a-z0-9:,]{0,500})" ')
 LARGEST = 64 << 20
 PLAIN_NAME = re.compile(r"[\w./~+-]+")
-# A row of an overall table has two at least: the net and a score. Signs of other writings look like a point.
-LIKE_POINTS = re.compile(r"\d[.,\u0080-\U0010ffff]\d")
-# Helm, boat and club that have more letters fill a line of a browser of texts, so that they go on where the next row begins.
-LONG = 80
-# The words of a text, and its commas. A sail of this many words at most ends at a comma in a row of a table. A sign of another
-# writing may look like one, and the mark of a letter doesn't.
-WORDS, SAIL_WORDS = re.compile(r"[^\s,]+|,"), 3
-MARKS, LIKE_COMMA = re.compile(r"(?<=[^\W\d_])[\u0300-\u036f]+"), re.compile(r"(?<=[A-Z0-9-])\s*[;\u0080-\U0010ffff]")
-# A sail with the letters of a nation, the rank before any other, and what the list of classes has before its leaders.
-NATIONAL, RANK = re.compile(r"[^\W\d_]{3}-?\d[\w-]*"), re.compile(r"\d{1,3}=?")
-LEADER = re.compile(r"\b(?:LEADS|FIRST)\s*[:;\u0080-\U0010ffff]")
 # Signs of a message about what differs. A page that is longer than the right one by this many isn't taken
 # apart to find the first cell that differs.
 MESSAGE, LONGER = 400, 1 << 16
@@ -286,36 +276,25 @@ def warnings(rebuilt: Rebuilt, page: str) -> list[str]:
 
 def bewares(view: Snapshot) -> list[str]:
     """What of a verified page isn't what it seems, or what the scores don't have as they should."""
+    found = made(view, "bewares", lambda of: "\n".join(bewares_now(of)))
+    return found.split("\n") if found else []
+
+
+def bewares_now(view: Snapshot) -> list[str]:
+    """The same, looked for."""
     shown = view.settings
     texts = [view.name, shown.title, shown.group, shown.club, shown.reason]
     texts += [text for boat in view.boats.values() for text in (boat.helm, boat.name, boat.club)]
     texts += rows_of(view.decided.text)
     odd = [f"{quoted(text)} has a sign that isn't seen, or that turns, strikes or pushes others"
            for text in texts if characters.has_odd(text)]
-    names = [" ".join(filter(None, (boat.helm, boat.name, boat.club))) for boat in view.boats.values()]
     sails = set(view.boats)
-    rows = [f"{quoted(text)} is long, or has a sail, points or a leader as a page shows them, and may be taken for a row of it "
-            "where lines are broken" for text in names if len(text) > LONG or is_like_a_row(in_one_form(text).upper(), sails)]
+    rows = [f"{quoted(' '.join(filter(None, (boat.helm, boat.name, boat.club))))} is long, or has a sail, points or a leader as a page "
+            "shows them, and may be taken for a row of it where lines are broken"
+            for boat in view.boats.values() if is_like_a_row(boat, sails)]
+    rows += [f"{quoted(text)} names a leader as a page does" for text in dict.fromkeys((shown.title, shown.group, shown.club))
+             if names_leader(in_one_form(text))]
     return [*first_ones(stale(view.decided), "decisions"), *first_ones(odd, "texts"), *first_ones(rows, "names")]
-
-
-def is_like_a_row(text: str, sails: set[str]) -> bool:
-    """Whether names have several numbers as points are, a sail and its comma, or what names a leader."""
-    plain = MARKS.sub("", text)
-    has_sail = any(word == "," and ends_in_sail(words[:at], sails) for words in
-                   (WORDS.findall(plain), WORDS.findall(LIKE_COMMA.sub(",", plain))) for at, word in enumerate(words))
-    return has_sail or len(LIKE_POINTS.findall(text)) > 1 or LEADER.search(text) is not None
-
-
-def ends_in_sail(words: list[str], sails: set[str]) -> bool:
-    """Whether the last words are the sail of a boat, or of one that isn't entered: with the letters of a nation, or after a
-    rank."""
-    for many in range(1, min(SAIL_WORDS, len(words)) + 1):
-        sail, before = "".join(words[-many:]), words[-many - 1:-many]
-        is_ranked = re.search(r"\d", sail) is not None and any(map(RANK.fullmatch, before))
-        if "," not in sail and (sail in sails or NATIONAL.fullmatch(sail) or is_ranked):
-            return True
-    return False
 
 
 def first_ones(texts: list[str], called: str) -> list[str]:

@@ -206,7 +206,7 @@ class TimedTap:
 
     def clock(self, sheet: SheetOfRace) -> str:
         """The moment of the tap by the clock of the race."""
-        own = with_seconds("start", sheet.cell(sheet.row(self.sail), "start"))
+        own = sheet.start_in(sheet.row(self.sail))
         start = own or (sheet.starts[0] if len(sheet.starts) == 1 else "")
         return clock_of_race(self.folder, self.session.register, self.race.number, start, self.session.tap.at)
 

@@ -8,14 +8,14 @@ from collections.abc import Mapping, Sequence
 from typing import Any
 
 from raceoffice.characters import utf8
-from raceoffice.corrected.sheets import FORMS, TIMES, entries_of
+from raceoffice.corrected.sheets import entries_of
 from raceoffice.corrected.times import RULES, Rules
-from raceoffice.corrected.write_sheet import SheetOfRace, is_form, with_rule
+from raceoffice.corrected.write_sheet import SheetOfRace, with_rule
 from raceoffice.errors import NotSent, NotThere, Trouble
 from raceoffice.files import edited_text, replace_whole
 from raceoffice.remarks import remark
 from raceoffice.series.folder import Folder
-from raceoffice.series.race_sheets import SHEETS, sheet_name
+from raceoffice.series.race_sheets import FORMS, SHEETS, TIMES, is_form, sheet_name
 from raceoffice.series.read_list import bytes_of
 from raceoffice.session.facts import Facts
 from raceoffice.web.states import Values, remarks_of

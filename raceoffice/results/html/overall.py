@@ -7,7 +7,7 @@ from raceoffice.decisions.points import words_of
 from raceoffice.program.codes import AS_DNF
 from raceoffice.program.standing import Row, Score
 from raceoffice.results.html.markup import NOTHING, Markup, separated, tag, together
-from raceoffice.results.html.page import (COMMA, bar, code, finding, foot, head, key, name_heads, named, points, rem,
+from raceoffice.results.html.page import (COMMA, TOP, bar, code, finding, foot, head, key, name_heads, named, points, rem,
                                           sail_head, who, whole)
 from raceoffice.results.html.sealing import block
 from raceoffice.results.snapshot import Snapshot
@@ -95,7 +95,7 @@ def line(view: Snapshot, row: Row, mark: str) -> Markup:
     return tag("tr", rank(view, row), tag("th", boat.sail, COMMA, helm, scope="row", class_="sail"),
                tag("td", who(boat), class_="who"), tag("td", net, tie, class_="net"),
                *map(cell, row.scores), total, id=f"{view.ids}{row.sail}",
-               data_find=finding(view, row.sail))
+               data_find=finding(view, row.sail), **TOP)
 
 
 def race_heads(races: Sequence[int], prefix: str | None) -> Markup:
@@ -131,7 +131,7 @@ def second_table(view: Snapshot, prefix: str | None) -> Markup:
         return NOTHING
     rows = [tag("tr", rank(view, row),
                 sail_head(view.boat(row.sail)), tag("td", who(view.boat(row.sail)), class_="who"),
-                *map(cell, row.scores[MOST_COLUMNS:])) for row in view.standing.rows]
+                *map(cell, row.scores[MOST_COLUMNS:]), **TOP) for row in view.standing.rows]
     heads = [tag("th", text, class_=name) for text, name in
              (("Rank", "rank"), ("Sail", "sail"), (name_heads(view), "who"))]
     made = tag("table", "\n", tag("thead", tag("tr", *heads, race_heads(races, prefix))), "\n",

@@ -44,6 +44,9 @@ def styles(text: str) -> str:
 # No sail has a comma in it, so that a boat isn't taken for one whose sail goes on as her helm's name begins. It is heard,
 # and not seen.
 COMMA = tag("i", ", ", class_="hidden")
+# A browser without styles centres the cells of a row, too: then a rank would be beside a later line of a name that is broken, and
+# not beside the sail.
+TOP = {"valign": "top"}
 # It isn't seen: what comes next goes on from left to right.
 LEFT_TO_RIGHT = "\u200e"
 

@@ -7,7 +7,7 @@ from raceoffice.program.codes import CODES
 from raceoffice.program.journal import Race
 from raceoffice.results.html.markup import NOTHING, Markup, separated, tag, together
 from raceoffice.results.html.overall import decisions
-from raceoffice.results.html.page import bar, code, finding, foot, head, key, name_heads, points, sail_head, who, whole
+from raceoffice.results.html.page import TOP, bar, code, finding, foot, head, key, name_heads, points, sail_head, who, whole
 from raceoffice.results.html.sealing import block
 from raceoffice.results.snapshot import Snapshot
 from raceoffice.wording import duration
@@ -34,7 +34,7 @@ def row(view: Snapshot, race: Race, sail: str, first: Markup, with_time: bool) -
         below = together(" ", tag("span", time, class_="below"))
     if scores:
         cells.append(tag("td", points(scores[sail].points), below, class_="pts"))
-    return tag("tr", *cells, data_find=finding(view, sail))
+    return tag("tr", *cells, data_find=finding(view, sail), **TOP)
 
 
 def heads(view: Snapshot, race: Race, first: str, with_time: bool) -> Markup:

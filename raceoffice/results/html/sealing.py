@@ -15,7 +15,7 @@ from raceoffice.series.entry_list import Boat
 from raceoffice.series.settings import rows_of
 
 # The number of the block's form. A change of what a page carries, or of how it is written, has another.
-NUMBER = 7
+NUMBER = 8
 SETTINGS = ("title", "club", "zone", "exclude", "absent", "scp", "state", "reason")
 # Signs by which a text could end the block, or begin another; U+2028 and U+2029 end lines.
 SIGNS = {sign: f"\\u{ord(sign):04x}" for sign in "<>&\u2028\u2029"}
