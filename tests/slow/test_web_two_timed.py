@@ -42,7 +42,7 @@ class TimedTrial(WebTrial):
     def begun(self, phone: Device, start: str, title: str, name: str = "") -> None:
         """Types the start of a class."""
         # Which classes are by corrected time is known once the page has the boats of each.
-        phone.until("![...document.querySelectorAll('#races .race')].some(one => /\\D0 to come/.test(one.textContent))")
+        phone.until("![...document.querySelectorAll('#races .race')].some(one => one.textContent.includes('none to come'))")
         phone.click("#start")
         if name:
             phone.choose(name)
