@@ -476,9 +476,11 @@ class Two(WebTrial):
             document.querySelector("#list li[data-key='cup GBR33'] button.finisher").click();
             return false;
         }})()""")
-        ann.run("document.querySelector('dialog[open]').end('')")
-        asked = f"{title} === 'Where did GBR 33 Folkboats finish?' && performance.now() - window.putOffAt"
-        self.assertGreater(ann.until(asked), 5900)
+        # A click on her row may also open it late, once more.
+        self.assertGreater(ann.until(f"""(() => {{
+            if ({title} === 'GBR 33 Autumn Cup') document.querySelector("dialog[open]").end("");
+            return {title} === 'Where did GBR 33 Folkboats finish?' && performance.now() - window.putOffAt;
+        }})()"""), 5900)
         self.assertEqual(self.journal("cup"), finishes("GBR33"))
 
     def test_taps_of_a_class_that_has_gone(self) -> None:
