@@ -129,7 +129,7 @@ class Timed(Prepared):
         for lines, taps, clock in changes:
             with self.subTest(lines):
                 for line in taps:
-                    self.assertEqual(ann.tap(line, **{"at": moment(clock)} if clock else {})[0], 200)
+                    self.assertEqual(ann.tap(line, at=moment(clock or "15:10:00"))[0], 200)
                 before = self.journal()
                 status, said = scorer.ask("POST", "/office/scorer/correct/cup", {"id": new_id(), "at": 1, "agreed": [], "lines": lines})
                 self.assertEqual((status, said["said"][0]["kind"], self.journal()), (422, "decision-changed", before), said)
