@@ -245,6 +245,28 @@ class Late(OnWater):
         self.assertEqual(self.values, {"line": "MARK 1 GBR7 DNF", "other": "FINISH 1 GBR7"})
         self.assertEqual(self.do("FINISH", "Ann", "MARK 1 GBR7 DNF", seen=seen, agreed=self.agreed), "taken")
 
+    def test_given_meanwhile(self) -> None:
+        """A code that takes the place of one that another device has given meanwhile is asked about, and so is what clears
+        that, or a penalty. The device's own codes aren't, nor those that it knew of, or that are gone again."""
+        for sail, code in (("GBR7", "MARK {} OCS"), ("FRA9", "PENALTY {} ZFP"), ("NED12", "MARK {} BFD"), ("IRL5", "MARK {} DNS")):
+            command, of, what = code.split()
+            self.do("FINISH", "Ann", "MARK 1 GBR33 DNC")
+            seen = len(self.room.facts.sheet.journal)
+            given = f"{command} 1 {sail} {what}"
+            self.assertEqual(self.do("FINISH", "Bob", given), "taken")
+            is_lost = (("CLEAR", True), ("MARK", command == "MARK"))
+            for last, is_asked in is_lost:
+                line = f"{last} 1 {sail} {'' if last == 'CLEAR' else 'RET'}".strip()
+                with self.subTest(given, line=line):
+                    now = len(self.room.facts.sheet.journal)
+                    if is_asked:
+                        self.assertEqual(self.do("SCORER", "Bea", line, seen=seen), "other-since")
+                        self.assertEqual(self.values, {"line": line, "other": given})
+                        self.assertEqual(len(self.room.facts.sheet.journal), now)
+            self.assertEqual(self.do("FINISH", "Bob", f"CLEAR 1 {sail}", seen=seen), "taken")
+            self.assertEqual(self.do("SCORER", "Bea", f"MARK 1 {sail} RET", seen=seen), "taken")
+            self.assertEqual(self.do("FINISH", "Bob", f"MARK 1 {sail} DNF", seen=len(self.room.facts.sheet.journal)), "taken")
+
     # Boats that were moved past one that isn't there
 
     def test_undone_after_a_swap(self) -> None:

@@ -125,6 +125,26 @@ class Timed(Prepared):
         status, said = ann.tap("FINISH 1 FRA9", at=1 << 52)
         self.assertEqual((status, "the clock of this device" in said["words"]), (422, True), said)
 
+    def test_changed_since_it_was_shown(self) -> None:
+        """Nothing is sent of boats that go to another race with a finish, or with codes, that they don't have any more."""
+        ann, scorer = self.device("finish"), self.device("scorer")
+        ann.tap("START 1 14:00:00")
+        for sail, clock in (("GBR101", "15:00:00"), ("GBR7", "15:05:00")):
+            self.finish(ann, sail, clock)
+        for line in ("MARK 1 NED12 OCS", "PENALTY 1 NED12 ZFP"):
+            ann.tap(line)
+        move = ["FINISH 2 GBR7 15:05:00", "STRIKE 1 GBR7"]
+        codes = ["MARK 2 NED12 OCS", "PENALTY 2 NED12 ZFP", "CLEAR 1 NED12"]
+        changes = ((move, ["STRIKE 1 GBR7", "FINISH 1 GBR7"], "15:06:00"), (codes, ["MARK 1 NED12 BFD"], ""),
+                   (["MARK 2 NED12 BFD", codes[2]], ["PENALTY 1 NED12 SCP"], ""))
+        for lines, taps, clock in changes:
+            with self.subTest(lines):
+                for line in taps:
+                    self.assertEqual(ann.tap(line, at=moment(clock or "15:10:00"))[0], 200)
+                before = self.journal()
+                status, said = scorer.ask("POST", "/office/scorer/correct/cup", {"id": new_id(), "at": 1, "agreed": [], "lines": lines})
+                self.assertEqual((status, said["said"][0]["kind"], self.journal()), (422, "decision-changed", before), said)
+
     def test_moments_before_the_start(self) -> None:
         """A finisher has the moment of her tap before the start is known, too, until the sheet has another finish of hers or
         none."""

@@ -8,6 +8,7 @@ from __future__ import annotations
 from collections.abc import Collection, Mapping, Sequence
 from typing import Any
 
+from raceoffice.corrected.write_sheet import SheetOfRace
 from raceoffice.errors import NotSent
 from raceoffice.program.journal import Race
 from raceoffice.program.replay import Line
@@ -125,12 +126,14 @@ def need_no_places(session: TapSession, lines: Sequence[Line]) -> None:
 
 
 def need_as_shown(session: TapSession, lines: Sequence[Line]) -> None:
-    """NotSent if the lines of a swap, or of boats that go to another race, were made of another order than there is now: they
-    would put boats where nobody has seen them. A sheet of times makes its own order."""
-    if session.folder.settings.handicap:
-        return
+    """NotSent if the lines of a swap, or of boats that go to another race, were made of another order than there is now, or of
+    other finishes and codes: they would put boats where nobody has seen them. A sheet of times makes its own order."""
     words = [line.text.split() for line in lines]
-    if is_swap(words) and words[3] not in backs_of(session, *words[1][1:]) or not is_in_order(session, words):
+    if session.folder.settings.handicap:
+        is_same = is_in_sheet(session, words)
+    else:
+        is_same = is_in_order(session, words) and not (is_swap(words) and words[3] not in backs_of(session, *words[1][1:]))
+    if not is_same or not are_codes_whole(session, words):
         raise NotSent(remark("decision-changed"))
 
 
@@ -166,6 +169,27 @@ def is_in_order(session: TapSession, words: Sequence[Sequence[str]]) -> bool:
             found = groups.setdefault((struck[sail], number), [])
             found.append({sail}) if command == "FINISH" or not found else found[-1].add(sail)
     return all(groups_among(session.facts.race(number), set().union(*found)) == found for (number, _), found in groups.items())
+
+
+def is_in_sheet(session: TapSession, words: Sequence[Sequence[str]]) -> bool:
+    """Whether the finishes that go to another race are those that the sheet of their own has now."""
+    struck = {one[2]: session.facts.race(one[1]).number for one in words if one[0] == "STRIKE" and len(one) == 3}
+    moved = [(struck[sail], sail, finish) for sail, finish in (one[2:4] for one in words if one[0] == "FINISH" and len(one) == 4)
+             if sail in struck]
+    sheets = {number: SheetOfRace(session.folder, number) for number, *_ in moved}
+    return all(sheets[number].cells(sail)["finish"] == finish for number, sail, finish in moved)
+
+
+def are_codes_whole(session: TapSession, words: Sequence[Sequence[str]]) -> bool:
+    """Whether all that is cleared of a boat whose codes go to another race goes there: somebody may have given her another. Of
+    a correction that has stopped half way, the first of them may be there already."""
+    cleared = {one[2]: session.facts.race(one[1]) for one in words if one[0] == "CLEAR" and len(one) == 3}
+    for sail, race in cleared.items():
+        given = [one[3] for one in words if one[0] in ("MARK", "PENALTY") and len(one) == 4 and one[2] == sail]
+        held = [*([race.codes[sail]] if sail in race.codes else []), *race.penalties.get(sail, [])]
+        if given and held[-len(given):] != given:
+            return False
+    return True
 
 
 def groups_among(race: Race, sails: Collection[str]) -> list[set[str]]:

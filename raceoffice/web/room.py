@@ -34,7 +34,7 @@ from raceoffice.web.finish_order import Moments, as_placed, later_in_order, line
 from raceoffice.web.late_taps import asked_if_abandoned, asked_of_new_places
 from raceoffice.web.preview import NO_ENTRIES, decided_shown
 from raceoffice.web.race_start import clock_shown
-from raceoffice.web.row_changes import TAKING, entries_of_starts, is_timed_again, moments_noted, recorded_again
+from raceoffice.web.row_changes import TAKING, entries_of_starts, given_since, is_timed_again, moments_noted, recorded_again
 from raceoffice.web.sheet_waits import with_reasons
 from raceoffice.web.states import (Values, boats_of, moves_of, races_of, rules_of, said_of, standing_of, unlisted)
 from raceoffice.web.tap_session import TapSession
@@ -539,7 +539,8 @@ class Room:
 
     def ask_again(self, session: TapSession, tap: Tap, line: str) -> None:
         """Asks if the journal has this very line since the tap: somebody else may have sent it. So it is if somebody else has
-        struck its boat since, and recorded her again: she isn't as the device showed her."""
+        struck its boat since, and recorded her again, or has given her what the line takes away: she isn't as the device showed
+        her."""
         race, words = session.facts.race_of(line), line.split()
         if tap.undoes or not tap.seen:
             return
@@ -557,7 +558,8 @@ class Room:
                  if commands[at - 1] == wanted and not is_timed_again(commands[at - 1:])]
         if later:
             session.is_agreed(question("sent-already", session.facts.called, line=line, entry=later[-1]))
-        if words[0] in TAKING and (other := recorded_again(session, line, [commands[at - 1] for at in others])):
+        since = [commands[at - 1] for at in others]
+        if words[0] in TAKING and (other := recorded_again(session, line, since) or given_since(session, line, since)):
             session.is_agreed(question("other-since", session.facts.called, line=line, other=other))
 
 

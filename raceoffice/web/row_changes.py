@@ -99,6 +99,20 @@ def recorded_again(session: TapSession, line: str, journal: Sequence[str]) -> st
     return last_after_strike(taps) or last_after_strike(lines)
 
 
+def given_since(session: TapSession, line: str, journal: Sequence[str]) -> str:
+    """The line by which somebody else has given a boat, since its tap, what a code takes the place of, or what is cleared; empty
+    if nobody has. `journal` are the others' commands since."""
+    command, number, sail, *_ = line.split()
+    if command not in ("MARK", "CLEAR"):
+        return ""
+    race = session.facts.race(number)
+    held = [f"MARK {race.number} {sail} {race.codes[sail]}"] if sail in race.codes else []
+    if command == "CLEAR":
+        held += [f"PENALTY {race.number} {sail} {code}" for code in race.penalties.get(sail, [])]
+        held += [f"REDRESS {race.number} {sail} {race.redress[sail]}"] if sail in race.redress else []
+    return next((other for other in reversed(journal) if other in held and other != line), "")
+
+
 def last_after_strike(lines: Sequence[str]) -> str:
     """The last of some lines for a boat that records her after she was struck; empty if there is none."""
     # A finish with a second time takes the place of that one.

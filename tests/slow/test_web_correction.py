@@ -94,6 +94,45 @@ class Correction(WebTrial):
         bea.until("document.body.textContent.includes('6 lines sent')")
         self.assertEqual(self.journal()[-6:], [f"SCORER FINISH 2 {sail}" for sail in order[:3]] + [f"SCORER STRIKE 1 {sail}" for sail in order[:3]])
 
+    def two_windows(self, device: Device, phone: Device, choices: tuple[str, ...]) -> None:
+        """Asks what is to be done about NED12 in a window of the scorer, and in one of a phone: choices but the last."""
+        phone.click("#list li[data-sail=NED12] button")
+        for choice in choices[:-1]:
+            phone.choose(choice)
+        device.click(f"{ROW.format('NED12')} th button")
+        for one in (device, phone):
+            one.until(f"[...document.querySelectorAll('dialog[open] button')].some(one => one.dataset.value?.toLowerCase() === '{choices[-1]}')")
+
+    def test_boat_that_has_changed(self) -> None:
+        """While a window asks what is to be done about a boat, another device puts her elsewhere, or gives her another code: what
+        takes that away is asked about, on the scorer's page and on a phone, and nothing is sent after a No."""
+        ben = web_devices.Device(self.port, "finish").come(self.links["finish"], "Ben")
+        bea, ann = self.device("scorer", "Bea"), self.phone()
+        ann.click("#races .race")
+        ann.click("dialog [data-race='1']")
+        steps = (("", ("strike",), ["STRIKE 1 NED12", "BEFORE 1 NED12 GBR101"], "Send it once more?"),
+                 ("MARK 1 NED12 OCS", ("code", "clear"), ["MARK 1 NED12 BFD"], "sent MARK 1 NED12 BFD since. Send CLEAR 1 NED12 all the same?"))
+        for before, choices, lines, asked in steps:
+            if before:
+                ben.tap(before)
+            for one in (bea, ann):
+                one.until(f"document.querySelector('[data-sail=NED12]:is(li, tr)')?.textContent.includes({json.dumps(before[-3:])})")
+            self.two_windows(bea, ann, choices)
+            for line in lines:
+                ben.tap(line)
+            changed, now = self.journal(), ben.state()["entries"]
+            for one, sign in ((bea, ".order tbody tr"), (ann, "#list li")):
+                one.until(f"document.querySelector('{sign}[data-sail=NED12]').textContent.includes({json.dumps(lines[-1][-3:])})"
+                          if before else f"document.querySelector('{sign}').dataset.sail === 'NED12'")
+            for one, name, no in ((bea, choices[-1], ""), (ann, "CLEAR" if before else "strike", "drop")):
+                with self.subTest(lines=lines, no=no):
+                    one.choose(name)
+                    one.until(f"document.querySelector('dialog[open]')?.textContent.includes({json.dumps(asked)})")
+                    one.choose(no)
+            self.settle(ann)
+            self.assertEqual((self.journal(), ben.state()["entries"]), (changed, now))
+        self.need_no_faults()
+
     def test_another_race_and_a_place(self) -> None:
         """Boats among whom a place is kept don't go to another race until it is known who she was."""
         finish = web_devices.Device(self.port, "finish").come(self.links["finish"], "Ben")

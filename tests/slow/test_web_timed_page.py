@@ -1,11 +1,14 @@
 """The scorer's corrections in a class by corrected time, in Chromium over the real program."""
 from __future__ import annotations
 
+import json
 import os
 import unittest
 
 import helpers
+import web_devices
 from devices import Device
+from test_web_timed import moment
 from web_office import WebTrial
 
 SHEET = "Sail,Start,Finish\nGBR 101,14:00:00,15:00:00\nGBR 7,14:00:00,15:05:00\nNED 12,14:00:00,14:48:01\n"
@@ -250,6 +253,40 @@ class TimedCorrections(WebTrial):
                 scorer.press("Send")
                 scorer.until("document.querySelector('#typed').value === ''")
             scorer.until("document.querySelectorAll('.order tbody tr').length === 3")
+        self.need_no_faults()
+
+    def test_other_times_while_it_is_asked(self) -> None:
+        """While a window asks for the start, or for what is to be done about a boat, a phone strikes her, and taps her again: of
+        her time before nothing is sent to another race, and it is asked before the new one is taken out."""
+        self.write("Sail,Start,Finish\nFRA 9,14:10:00,14:40:00\n", "cup", "times", "race-1.csv")
+        self.write(SHEET, "cup", "times", "race-2.csv")
+        scorer, ann = self.scorer_of(2, 3), web_devices.Device(self.port, "finish").come(self.links["finish"], "Ann")
+        shown = "document.querySelector('.order tr[data-sail=GBR7] .time')?.textContent"
+        ways = (("own", "STRIKE 2 GBR7", "look again"), ("there", "MARK 2 FRA9 DNF", "just moved"), ("strike", "STRIKE 2 GBR7", "since"),
+                ("out", "STRIKE 2 GBR7", "since"))
+        for second, (way, line, words) in enumerate(ways, 1):
+            with self.subTest(way):
+                if way in ("own", "there"):
+                    self.move(scorer, "GBR7", 1)
+                else:
+                    scorer.click(".order tr[data-sail=GBR7] th button")
+                if way == "out":
+                    scorer.choose("time")
+                scorer.until(f"!!document.querySelector('dialog[open] [data-value={way}]')")
+                before = scorer.run(shown)
+                ann.tap(line)
+                if line.startswith("STRIKE"):
+                    ann.tap("FINISH 2 GBR7", at=moment(f"15:06:0{second}"))
+                    scorer.until(f"(found => found && found !== {json.dumps(before)})({shown})")
+                journal, sheets = self.journal(), [self.sheet(race) for race in (1, 2)]
+                scorer.choose(way)
+                if way in ("strike", "out"):
+                    scorer.until(f"document.querySelector('dialog[open]')?.textContent.includes({json.dumps(words)})")
+                    scorer.choose("")
+                else:
+                    scorer.until(f"document.querySelector('#alarm').textContent.includes({json.dumps(words)})")
+                scorer.until("!document.querySelector('dialog[open]')")
+                self.assertEqual((self.journal(), [self.sheet(race) for race in (1, 2)]), (journal, sheets))
         self.need_no_faults()
 
     def test_an_hour_of_one_digit(self) -> None:

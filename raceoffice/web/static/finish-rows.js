@@ -10,9 +10,9 @@ import {showWhy} from "./sheet-why.js";
 // What can be done about a finisher of the list
 export async function askFinisher(name, sail) {
   const places = [{value: "before", label: text("finish.insertAhead")}, {value: "level", label: text("finish.insertLevel")}];
-  const done = await choose(named(name, sail), whyWaiting(name, sail), [...(isTimed(name) ? [] : places), {value: "code", label: text("finish.codeOrPenalty")}, {value: "strike", label: text("finish.strikeHer"), look: "bad"},
+  const {seen} = raceNow(name), done = await choose(named(name, sail), whyWaiting(name, sail), [...(isTimed(name) ? [] : places), {value: "code", label: text("finish.codeOrPenalty")}, {value: "strike", label: text("finish.strikeHer"), look: "bad"},
     {value: "", label: text("common.cancel")}], "stack");
-  if (done === "strike") strike(name, sail);
+  if (done === "strike") strike(name, sail, seen);
   else if (done === "code") askCode(name, sail);
   else if (done) setMode({kind: done, class: name, sail});
 }
@@ -24,16 +24,17 @@ function whyWaiting(name, sail) {
   return part;
 }
 
-function strike(name, sail) {
+// What others have recorded since the window was opened is asked about.
+function strike(name, sail, seen) {
   buzz(60);
-  addTap(name, `STRIKE # ${sail}`);
+  addTap(name, `STRIKE # ${sail}`, {seen});
 }
 
 // After a swipe or a long press
 export async function askStrike(name, sail) {
-  const done = await choose(text("finish.strikeQuestion", {sail: named(name, sail)}), text("finish.strikeMeans"),
+  const {seen} = raceNow(name), done = await choose(text("finish.strikeQuestion", {sail: named(name, sail)}), text("finish.strikeMeans"),
     [{value: "", label: text("common.no")}, {value: "yes", label: text("finish.strike"), look: "bad"}]);
-  if (done === "yes") strike(name, sail);
+  if (done === "yes") strike(name, sail, seen);
 }
 
 // What can be done about a place that is kept

@@ -71,7 +71,7 @@ export function forgetIfShown(item) {
   queue.drop(item);
 }
 
-// The race of a class that is being recorded, with the taps of this device
+// The race of a class that is being recorded, with the taps of this device, and how many entries this page has seen
 export function raceNow(name) {
   const number = page.races[name];
   const items = queue.of(name).filter(item => !["refused", "gone"].includes(item.state) && isHere(item)).map(item => ({...item, line: shownLine(item)}));
@@ -82,6 +82,7 @@ export function raceNow(name) {
     const next = found.order.findIndex(([sail]) => found.at[sail] > one.at);
     found.unread.push({...one, after: next < 0 ? found.order.length : next});
   }
+  found.seen = page.states[name]?.entries ?? 0;
   return found;
 }
 
@@ -184,7 +185,7 @@ export function toComeCount(name) {
 // Adds a tap: `line` has # in place of the race's number.
 export function addTap(name, line, more = {}) {
   const race = raceNow(name), number = page.races[name];
-  const item = queue.add({class: name, line: line.replace("#", number), seen: page.states[name]?.entries ?? 0, series: seriesOf(name), ...more});
+  const item = queue.add({class: name, line: line.replace("#", number), seen: race.seen, series: seriesOf(name), ...more});
   if (!more.undoes && !line.startsWith("START")) {
     noteUndoable({id: item.id, class: name, line: item.line, back: lineThatUndoes(item.line, race)});
   }

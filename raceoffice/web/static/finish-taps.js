@@ -103,7 +103,7 @@ function undoSent(tap, item) {
 
 // A code or a penalty for a boat
 export async function askCode(name, sail) {
-  const held = heldBy(raceNow(name), sail);
+  const race = raceNow(name), held = heldBy(race, sail);
   setMode({kind: "finish"});
   page.digits = "";
   page.redraw();
@@ -112,8 +112,7 @@ export async function askCode(name, sail) {
   const code = await choose(text("finish.whichCode", {sail: named(name, sail)}), box, [{value: "", label: text("common.cancel")}]);
   if (!code) return;
   buzz(35);
-  if (code === "CLEAR") addTap(name, `CLEAR # ${sail}`);
-  else addTap(name, `${PENALTIES.includes(code) ? "PENALTY" : "MARK"} # ${sail} ${code}`);
+  addTap(name, code === "CLEAR" ? `CLEAR # ${sail}` : `${PENALTIES.includes(code) ? "PENALTY" : "MARK"} # ${sail} ${code}`, {seen: race.seen});
 }
 
 function codeButton(code, words, label = code) {

@@ -19,7 +19,8 @@ function startShown(name, words) {
   return number ? {was: state(name).races[number]?.sheet?.start ?? ""} : {};
 }
 
-// Sends a line, and says what the office said of it.
+// Sends a line, and says what the office said of it. One that was chosen in a window goes with the entries that were `seen` as
+// that was opened: the office asks about what others have recorded since.
 export async function line(name, words, more) {
   const done = await send(name, words, {...startShown(name, words), ...more});
   if (done && done.outcome !== "refused") say(saidWords(done.said).slice(0, 2).join("\n"));
@@ -45,29 +46,29 @@ function choicesOf(name, race, sail, held) {
 
 // Asks what is to be done about a boat, and does it.
 export async function correct(name, number, sail) {
-  const race = raceNumbered(name, number), held = heldIn(race, sail);
+  const race = raceNumbered(name, number), held = heldIn(race, sail), seen = state(name).entries;
   const done = await choose(text("scorer.boatInRace", {boat: called(sail, name), number}), held.length ? text("scorer.sheHolds", {held}) : "",
     [...choicesOf(name, race, sail, held), cancel()], "stack");
   const single = {strike: `STRIKE ${number} ${sail}`, clear: `CLEAR ${number} ${sail}`, last: `FINISH ${number} ${sail}`}[done];
-  if (single) line(name, single);
-  else if (done === "time") typeTime(name, race, number, sail);
-  else if (done === "code") askCode(name, number, sail);
+  if (single) line(name, single, {seen});
+  else if (done === "time") typeTime(name, race, number, sail, seen);
+  else if (done === "code") askCode(name, number, sail, seen);
   else if (done === "ahead" || done === "level") insertAt(name, race, number, sail, done);
   else if (done === "into") putInto(name, race, number, sail);
   else if (done === "move") moveTo(name, race, number, sail);
   else if (done === "swap") swapWith(name, race, number, sail);
 }
 
-async function askCode(name, number, sail) {
+async function askCode(name, number, sail, seen) {
   const done = await choose(text("finish.whichCode", {sail: called(sail, name)}), [],
     [...[...CODES, ...PENALTIES].map(code => ({value: code, label: element("span", {}, code, element("small", {}, ` ${text(`code.${code}`)}`))})), cancel()]);
-  if (done) line(name, `${PENALTIES.includes(done) ? "PENALTY" : "MARK"} ${number} ${sail} ${done}`);
+  if (done) line(name, `${PENALTIES.includes(done) ? "PENALTY" : "MARK"} ${number} ${sail} ${done}`, {seen});
 }
 
 // A boat as the sheet of times has her; an elapsed time only if that was given
-function typeTime(name, race, number, sail) {
+function typeTime(name, race, number, sail, seen) {
   const {finish = "", elapsed = "", code = ""} = race.sheet?.rows[sail] ?? {};
-  return correctByHand(name, number, {sail, finish, elapsed: finish ? "" : elapsed ?? "", code});
+  return correctByHand(name, number, {sail, finish, elapsed: finish ? "" : elapsed ?? "", code}, seen);
 }
 
 async function insertAt(name, race, number, sail, how) {
@@ -104,10 +105,10 @@ async function swapWith(name, race, number, sail) {
 
 // A boat that finished after all others, or at a time that is asked for
 export async function addFinisher(name, number) {
-  const race = raceNumbered(name, number);
+  const race = raceNumbered(name, number), seen = state(name).entries;
   if (state(name).handicap) {
     const finisher = await findBoat(name, text("scorer.addFinisher"), missingFrom(name, race).filter(sail => !hasFinished(race, sail)));
-    if (finisher) typeTime(name, race, number, finisher);
+    if (finisher) typeTime(name, race, number, finisher, seen);
     return;
   }
   const sail = await findBoat(name, text("scorer.whoFinishedLast"), missingFrom(name, race), text("scorer.elsewhereHint"));

@@ -104,8 +104,15 @@ async function sheetToOther(name, number, race, {to, sails, coded, isAll}, codes
   });
   const given = {race: to, rows: Object.fromEntries(rows), tag: other.tag, overnight: other.overnight || from.overnight};
   const several = linesOfOtherSheet(race, number, to, sails, moved, codes), agreed = await agreedOfLines(name, several);
-  if (!agreed || !isTaken(await ask(addressOf("sheet", name), given))) return;
+  if (!agreed || await isOtherNow(name, number, from) || !isTaken(await ask(addressOf("sheet", name), given))) return;
   if (await lines(name, several, newId(), agreed) && isAll) clearCourse(name, number);
+}
+
+// Whether somebody has changed a sheet while something was asked, which is said: nothing of what was shown is sent then
+async function isOtherNow(name, number, shown) {
+  const now = await sheetOf(name, number), isOther = isTaken(now) && now.tag !== shown.tag;
+  if (isOther) say(text("finish.justMoved"), true);
+  return isOther || now.status !== 200;
 }
 
 // Whether one of the boats is in the other sheet already, which is said
