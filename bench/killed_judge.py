@@ -125,6 +125,9 @@ class Expected:
 def count(expected: Expected, who: str, tap: Tap) -> None:
     """Counts what a tap has put into the journal."""
     role = role_of(who)
+    if tap.line.startswith("ABANDON "):
+        count_abandoned(expected, role, tap)
+        return
     if tap.kind == "correct":
         for one in tap.said.get("done", []):
             if one["outcome"] == "taken" and one["entry"]:
@@ -144,6 +147,16 @@ def count(expected: Expected, who: str, tap: Tap) -> None:
         words = tap.line.split()
         if len(words) > 2:
             expected.placed[words[1], words[2]] += 1
+
+
+def count_abandoned(expected: Expected, role: str, tap: Tap) -> None:
+    """Counts the lines by which a race was taken away: those that were agreed to last. Of others that were agreed to before,
+    some may have been sent, and so may those of a tap that was stopped."""
+    agreed = [asked["values"]["lines"] for asked in tap.body.get("agreed", []) if asked["kind"] == "abandon"]
+    is_whole = tap.outcome == "noted" and any(one["what"] == "taken-away" for one in tap.said["said"])
+    for at, lines in enumerate(agreed, 1):
+        for line in lines:
+            (expected.taken if is_whole and at == len(agreed) else expected.perhaps)[f"{role} {line}"] += 1
 
 
 def judge_lines(verdict: Verdict, devices: dict[str, list[Tap]], entries: list[str], kinds: tuple[str, ...] = ()) -> None:
@@ -253,6 +266,9 @@ def rows_of(devices: dict[str, list[Tap]], removals: list[Removal], east: int) -
     for who, taps in devices.items():
         for tap in [one for one in taps if who[0] == "f" and one.kind == "line"]:
             words = tap.line.split()
+            if words[0] == "ABANDON":
+                take_race_away(rows, words[1], tap, removals)
+                continue
             undone = str(tap.body.get("undoes", ""))
             key = about.get(undone) if words[0] == "UNDO" else (words[1], words[2]) if len(words) > 2 else None
             if key is None or words[0] not in ("UNDO", "FINISH", "STRIKE", "MARK", "CLEAR"):
@@ -275,6 +291,18 @@ def rows_of(devices: dict[str, list[Tap]], removals: list[Removal], east: int) -
         if (race, sail) in cleared:
             row.may_be |= {(finish, "") for finish, _ in row.may_be}
     return rows
+
+
+def take_race_away(rows: dict[tuple[str, str], Row], race: str, tap: Tap, removals: list[Removal]) -> None:
+    """What a race that is abandoned leaves in its sheet: BFD alone. One that was stopped may have emptied the sheet."""
+    for (number, sail), row in rows.items():
+        if number != race or tap.status in (400, 422) or not tap.sent:
+            continue
+        follow_removals(row, sail, removals, tap)
+        made: set[Cells] = {("", code if code == "BFD" else "") for _, code in row.may_be}
+        row.may_be = made if tap.outcome == "noted" else row.may_be | made
+        row.last = tap.sent, tap.ended
+        row.taps.append(f"{tap.line} [{tap.id[:6]} {tap.status} {tap.outcome}]")
 
 
 def follow_removals(row: Row, sail: str, removals: list[Removal], tap: Tap | None) -> None:
