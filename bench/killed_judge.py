@@ -2,7 +2,7 @@
 
 What is gone of a journal has to be lines about a boat of whom the office's log says at that place that she was taken out,
 and nothing else. With these lines put back, the journal has each line as often as devices were answered that theirs was
-taken; one that wasn't answered may be there once. By corrected time the sheets have of each boat what the taps make of her.
+taken; one that wasn't answered may be there once. A race that was abandoned has all lines that were agreed to. By corrected time the sheets have of each boat what the taps make of her.
 """
 from __future__ import annotations
 
@@ -21,6 +21,8 @@ from killed_device import Memory, Tap
 # Milliseconds between a change of a file and the look that sees it
 LATE = 0.5
 PLACES = "office/places"
+# The lines that may come of a finish
+PLACING = ("FINISH", "BEFORE", "TIE")
 # A boat's finish and code in a sheet
 Cells = tuple[str, str]
 EMPTY: Cells = ("", "")
@@ -152,11 +154,32 @@ def count(expected: Expected, who: str, tap: Tap) -> None:
 def count_abandoned(expected: Expected, role: str, tap: Tap) -> None:
     """Counts the lines by which a race was taken away: those that were agreed to last. Of others that were agreed to before,
     some may have been sent, and so may those of a tap that was stopped."""
-    agreed = [asked["values"]["lines"] for asked in tap.body.get("agreed", []) if asked["kind"] == "abandon"]
-    is_whole = tap.outcome == "noted" and any(one["what"] == "taken-away" for one in tap.said["said"])
-    for at, lines in enumerate(agreed, 1):
-        for line in lines:
-            (expected.taken if is_whole and at == len(agreed) else expected.perhaps)[f"{role} {line}"] += 1
+    agreed, is_whole = lines_agreed(tap), is_taken_away(tap)
+    last = collections.Counter(agreed[-1] if is_whole else [])
+    perhaps = collections.Counter[str]()
+    for lines in agreed:
+        perhaps |= collections.Counter(lines)
+    for line, times in last.items():
+        expected.taken[f"{role} {line}"] += times
+    for line, times in (perhaps - last).items():
+        expected.perhaps[f"{role} {line}"] += times
+
+
+def lines_agreed(tap: Tap) -> list[list[str]]:
+    """The lines of each question about a race that is abandoned that was answered by yes."""
+    return [asked["values"]["lines"] for asked in tap.body.get("agreed", []) if asked["kind"] == "abandon"]
+
+
+def is_taken_away(tap: Tap) -> bool:
+    """Whether it was answered that a race was taken away by lines."""
+    return tap.outcome == "noted" and bool(lines_agreed(tap)) and any(one["what"] == "taken-away" for one in tap.said["said"])
+
+
+def figures_of_abandoned(verdict: Verdict, everything: list[Tap]) -> None:
+    """How many races were abandoned, by how many lines, and how many of these gave something back."""
+    lines = [line for tap in everything if is_taken_away(tap) for line in lines_agreed(tap)[-1]]
+    verdict.figures |= {"races abandoned": sum(map(is_taken_away, everything)), "lines of these": len(lines),
+                        "of which give back": sum(line.startswith(("MARK ", "PENALTY ")) for line in lines)}
 
 
 def judge_lines(verdict: Verdict, devices: dict[str, list[Tap]], entries: list[str], kinds: tuple[str, ...] = ()) -> None:
@@ -172,7 +195,9 @@ def judge_lines(verdict: Verdict, devices: dict[str, list[Tap]], entries: list[s
         role, command, *about = line.split()
         if kinds and f"{role} {command}" not in kinds:
             continue
-        wanted, spare = expected.taken[line], expected.perhaps[line] + expected.placed[tuple(about[:2])]  # type: ignore[index]
+        wanted, spare = expected.taken[line], expected.perhaps[line]
+        if command in PLACING:
+            spare += expected.placed[tuple(about[:2])]  # type: ignore[index]
         if has[line] < wanted:
             lost += wanted - has[line]
             verdict.wrong.append(f"{verdict.name}: LOST {line}: answered {wanted} times, there {has[line]} times; taps "
@@ -382,6 +407,7 @@ def judge_class(name: str, top: str, generations: list[Generation], east: int) -
                                  "dropped" if tap.is_dropped else "unanswered" for tap in everything)
     verdict.figures |= {"taps": len(everything), **{f"taps {end}": n for end, n in sorted(by_end.items())},
                         "entries": len(entries)}
+    figures_of_abandoned(verdict, everything)
     judge_entries(verdict, devices, generations)
     if name == "cup":
         judge_lines(verdict, devices, [entry for entry in whole if not is_listed(entry)])
