@@ -152,16 +152,15 @@ def count(expected: Expected, who: str, tap: Tap) -> None:
 
 
 def count_abandoned(expected: Expected, role: str, tap: Tap) -> None:
-    """Counts the lines by which a race was taken away: those that were agreed to last. Of others that were agreed to before,
-    some may have been sent, and so may those of a tap that was stopped."""
-    agreed, is_whole = lines_agreed(tap), is_taken_away(tap)
-    last = collections.Counter(agreed[-1] if is_whole else [])
-    perhaps = collections.Counter[str]()
+    """Counts the lines by which a race was taken away. If several questions were answered by yes, what others have recorded
+    and taken back meanwhile decides by which: what all have was surely sent. A tap that was stopped may have sent some."""
+    agreed = [collections.Counter(lines) for lines in lines_agreed(tap)]
+    perhaps, taken = collections.Counter[str](), collections.Counter(agreed[-1] if is_taken_away(tap) else [])
     for lines in agreed:
-        perhaps |= collections.Counter(lines)
-    for line, times in last.items():
+        perhaps, taken = perhaps | lines, taken & lines
+    for line, times in taken.items():
         expected.taken[f"{role} {line}"] += times
-    for line, times in (perhaps - last).items():
+    for line, times in (perhaps - taken).items():
         expected.perhaps[f"{role} {line}"] += times
 
 
