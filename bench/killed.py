@@ -5,11 +5,11 @@
 
 `raceoffice serve` serves a class by order, `cup`, and one by corrected time, `fleet`. Three finish boats, two scorers and a
 jury are processes that tap in both, as their pages do (killed_device.py): they keep each tap, send it again until it is
-answered, answer what they are asked, take back, take boats out of the journal, close and open the office. The web, the
-programs, both at once and the devices are killed at random, just when a journal was replaced, and just when it has grown: then
-nobody may have noted the answer. Whoever was killed is started again. In the end all send what they have left, and
-killed_judge.py compares what they were answered with the journals, the places, the sheets and the log. The status is 0 if
-nothing was wrong.
+answered, answer what they are asked, take back, abandon races, take boats out of the journal, close and open the office. The
+web, the programs, both at once and the devices are killed at random, just when a journal was replaced, and just when it has
+grown: then nobody may have noted the answer. Whoever was killed is started again. In the end all send what they have left,
+and killed_judge.py compares what they were answered with the journals, the places, the sheets and the log. The status is 0
+if nothing was wrong.
 
 FOLDER keeps all files. Without it, they go unless something was wrong.
 """

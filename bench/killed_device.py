@@ -27,7 +27,11 @@ TIMED = ("fleet",)
 # How many hours east of UTC the series is
 EAST = int(os.environ.get("EAST", "0"))
 LATE = [f"USA{number}" for number in range(1, 7)]
-CODES, PENALTIES = ("DNF", "RET", "OCS", "DNS"), ("ZFP", "SCP")
+CODES, PENALTIES = ("DNF", "RET", "OCS", "DNS", "BFD"), ("ZFP", "SCP")
+# Milliseconds by which the clock of a device may be wrong, where no sheet has its times
+WRONG = (0, 0, 0, 0, -4_000, 30_000, -3_600_000, 3_600_000)
+# Of how many taps at the finish one takes a race away
+ABANDONED = 0.04
 # Of how many taps one is dropped by a person when the office asks.
 DROPPED = 0.15
 
@@ -114,6 +118,7 @@ class Hand:
         self.link: http.client.HTTPConnection | None = None
         # Those that were answered while this process ran, which it may undo
         self.own: list[Tap] = []
+        self.ahead = 0 if name in TIMED else self.chance.choice(WRONG)
 
     # Asking
 
@@ -195,7 +200,7 @@ class Hand:
 
     def add(self, line: str, kind: str = "line", **more: Any) -> None:
         """Keeps a new tap."""
-        body = {"line": line, "at": int(time.time() * 1000), "seen": self.state.get("entries", 0),
+        body = {"line": line, "at": int(time.time() * 1000) + self.ahead, "seen": self.state.get("entries", 0),
                 "series": self.state.get("series", ""), **more}
         if kind == "line" and not line:
             del body["line"]
@@ -228,15 +233,24 @@ class Hand:
     def undo_last(self) -> bool:
         """Takes back the last tap of this device, if something came of it."""
         done = [tap for tap in self.own if tap.kind == "line" and tap.outcome in ("taken", "noted")
-                and not tap.line.startswith(("UNDO", "ENTER", "SCORE", "UNSCORE", "TIMES", "START"))]
+                and not tap.line.startswith(("UNDO", "ENTER", "SCORE", "UNSCORE", "TIMES", "START", "ABANDON"))
+                and not self.is_of_abandoned(tap)]
         if not done:
             return False
         self.own.remove(done[-1])
         self.add("UNDO", undoes=done[-1].id)
         return True
 
+    def is_of_abandoned(self, tap: Tap) -> bool:
+        """Whether a tap for a sheet is of a race that this device has abandoned since: it isn't taken back."""
+        taps = list(self.memory.taps.values())
+        return self.name in TIMED and any(one.name == self.name and one.line == f"ABANDON {tap.line.split()[1]}"
+                                          for one in taps[taps.index(tap):])
+
     def tap(self) -> None:
-        if self.role == "scorer":
+        if self.role == "finish" and self.chance.random() < ABANDONED:
+            self.add(f"ABANDON {self.own_race()}")
+        elif self.role == "scorer":
             self.tap_as_scorer()
         elif self.role == "jury":
             self.tap_as_jury()
@@ -325,6 +339,8 @@ class Hand:
             self.close_and_open()
         elif chance < 0.65 and self.name not in TIMED:
             self.correct()
+        elif chance < 0.70 and self.name not in TIMED:
+            self.add(f"ABANDON {pick((*range(1, 10), 20))}")
         elif chance < 0.75:
             number = self.chance.randint(1, 9)
             self.add(f"{'UNSCORE' if self.race_of(number)['counts'] else 'SCORE'} {number}")

@@ -2,7 +2,7 @@
 
 What is gone of a journal has to be lines about a boat of whom the office's log says at that place that she was taken out,
 and nothing else. With these lines put back, the journal has each line as often as devices were answered that theirs was
-taken; one that wasn't answered may be there once. By corrected time the sheets have of each boat what the taps make of her.
+taken; one that wasn't answered may be there once. A race that was abandoned has all lines that were agreed to. By corrected time the sheets have of each boat what the taps make of her.
 """
 from __future__ import annotations
 
@@ -21,6 +21,8 @@ from killed_device import Memory, Tap
 # Milliseconds between a change of a file and the look that sees it
 LATE = 0.5
 PLACES = "office/places"
+# The lines that may come of a finish
+PLACING = ("FINISH", "BEFORE", "TIE")
 # A boat's finish and code in a sheet
 Cells = tuple[str, str]
 EMPTY: Cells = ("", "")
@@ -125,6 +127,9 @@ class Expected:
 def count(expected: Expected, who: str, tap: Tap) -> None:
     """Counts what a tap has put into the journal."""
     role = role_of(who)
+    if tap.line.startswith("ABANDON "):
+        count_abandoned(expected, role, tap)
+        return
     if tap.kind == "correct":
         for one in tap.said.get("done", []):
             if one["outcome"] == "taken" and one["entry"]:
@@ -146,6 +151,36 @@ def count(expected: Expected, who: str, tap: Tap) -> None:
             expected.placed[words[1], words[2]] += 1
 
 
+def count_abandoned(expected: Expected, role: str, tap: Tap) -> None:
+    """Counts the lines by which a race was taken away. If several questions were answered by yes, what others have recorded
+    and taken back meanwhile decides by which: what all have was surely sent. A tap that was stopped may have sent some."""
+    agreed = [collections.Counter(lines) for lines in lines_agreed(tap)]
+    perhaps, taken = collections.Counter[str](), collections.Counter(agreed[-1] if is_taken_away(tap) else [])
+    for lines in agreed:
+        perhaps, taken = perhaps | lines, taken & lines
+    for line, times in taken.items():
+        expected.taken[f"{role} {line}"] += times
+    for line, times in (perhaps - taken).items():
+        expected.perhaps[f"{role} {line}"] += times
+
+
+def lines_agreed(tap: Tap) -> list[list[str]]:
+    """The lines of each question about a race that is abandoned that was answered by yes."""
+    return [asked["values"]["lines"] for asked in tap.body.get("agreed", []) if asked["kind"] == "abandon"]
+
+
+def is_taken_away(tap: Tap) -> bool:
+    """Whether it was answered that a race was taken away by lines."""
+    return tap.outcome == "noted" and bool(lines_agreed(tap)) and any(one["what"] == "taken-away" for one in tap.said["said"])
+
+
+def figures_of_abandoned(verdict: Verdict, everything: list[Tap]) -> None:
+    """How many races were abandoned, by how many lines, and how many of these gave something back."""
+    lines = [line for tap in everything if is_taken_away(tap) for line in lines_agreed(tap)[-1]]
+    verdict.figures |= {"races abandoned": sum(map(is_taken_away, everything)), "lines of these": len(lines),
+                        "of which give back": sum(line.startswith(("MARK ", "PENALTY ")) for line in lines)}
+
+
 def judge_lines(verdict: Verdict, devices: dict[str, list[Tap]], entries: list[str], kinds: tuple[str, ...] = ()) -> None:
     """Whether a journal has each line as often as it has to: only lines of these kinds, if there are some."""
     expected = Expected()
@@ -159,7 +194,9 @@ def judge_lines(verdict: Verdict, devices: dict[str, list[Tap]], entries: list[s
         role, command, *about = line.split()
         if kinds and f"{role} {command}" not in kinds:
             continue
-        wanted, spare = expected.taken[line], expected.perhaps[line] + expected.placed[tuple(about[:2])]  # type: ignore[index]
+        wanted, spare = expected.taken[line], expected.perhaps[line]
+        if command in PLACING:
+            spare += expected.placed[tuple(about[:2])]  # type: ignore[index]
         if has[line] < wanted:
             lost += wanted - has[line]
             verdict.wrong.append(f"{verdict.name}: LOST {line}: answered {wanted} times, there {has[line]} times; taps "
@@ -253,6 +290,9 @@ def rows_of(devices: dict[str, list[Tap]], removals: list[Removal], east: int) -
     for who, taps in devices.items():
         for tap in [one for one in taps if who[0] == "f" and one.kind == "line"]:
             words = tap.line.split()
+            if words[0] == "ABANDON":
+                take_race_away(rows, words[1], tap, removals)
+                continue
             undone = str(tap.body.get("undoes", ""))
             key = about.get(undone) if words[0] == "UNDO" else (words[1], words[2]) if len(words) > 2 else None
             if key is None or words[0] not in ("UNDO", "FINISH", "STRIKE", "MARK", "CLEAR"):
@@ -275,6 +315,18 @@ def rows_of(devices: dict[str, list[Tap]], removals: list[Removal], east: int) -
         if (race, sail) in cleared:
             row.may_be |= {(finish, "") for finish, _ in row.may_be}
     return rows
+
+
+def take_race_away(rows: dict[tuple[str, str], Row], race: str, tap: Tap, removals: list[Removal]) -> None:
+    """What a race that is abandoned leaves in its sheet: BFD alone. One that was stopped may have emptied the sheet."""
+    for (number, sail), row in rows.items():
+        if number != race or tap.status in (400, 422) or not tap.sent:
+            continue
+        follow_removals(row, sail, removals, tap)
+        made: set[Cells] = {("", code if code == "BFD" else "") for _, code in row.may_be}
+        row.may_be = made if tap.outcome == "noted" else row.may_be | made
+        row.last = tap.sent, tap.ended
+        row.taps.append(f"{tap.line} [{tap.id[:6]} {tap.status} {tap.outcome}]")
 
 
 def follow_removals(row: Row, sail: str, removals: list[Removal], tap: Tap | None) -> None:
@@ -354,6 +406,7 @@ def judge_class(name: str, top: str, generations: list[Generation], east: int) -
                                  "dropped" if tap.is_dropped else "unanswered" for tap in everything)
     verdict.figures |= {"taps": len(everything), **{f"taps {end}": n for end, n in sorted(by_end.items())},
                         "entries": len(entries)}
+    figures_of_abandoned(verdict, everything)
     judge_entries(verdict, devices, generations)
     if name == "cup":
         judge_lines(verdict, devices, [entry for entry in whole if not is_listed(entry)])

@@ -24,7 +24,7 @@ from raceoffice.series.read_list import table_of
 from raceoffice.series.unknown_finishers import Unread
 from raceoffice.series.write_list import with_boat
 from raceoffice.web.kept_office import KeptOffice
-from web_devices import BOATS, Device, Web, list_of
+from web_devices import BOATS, Device, Web, list_of, new_id
 
 LISTED = "/office/scorer/listed/cup"
 LIST = list_of(BOATS)
@@ -227,6 +227,20 @@ class Out(Web):
         status, said = ann.again().tap(line, at=at, seen=seen)
         self.assertEqual((status, said["question"]["kind"]), (409, "sent-already"), said)
         self.assertEqual(self.journal(), [f"FINISH {line}"])
+
+    def test_tapped_again(self) -> None:
+        """A boat was placed by her and struck again, and these lines went with her: the same tap again gets the same answer, as its
+        line was meant to go."""
+        ann, id = self.device("finish", "Ann"), new_id()
+        self.scorer.tap("ENTER USA4", agreed=[{"kind": "enter-unlisted", "values": {"sail": "USA4"}}])
+        for line, own in (("FINISH 1 USA4", ""), ("TIE 1 GBR7 USA4", id), ("STRIKE 1 GBR7", "")):
+            self.assertEqual(ann.tap(line, own)[0], 200)
+        self.assertEqual(self.remove("USA4", self.remove()[1]["question"])[0], 200)
+        helpers.until("the state", lambda: not self.scorer.again().state()["trouble"])
+        self.assertEqual(self.journal(), [])
+        status, said = ann.again().tap("TIE 1 GBR7 USA4", id=id)
+        self.assertEqual((status, said.get("outcome")), (200, "taken"), said)
+        self.assertEqual(self.journal(), [])
 
     def test_stays(self) -> None:
         """She stays if another boat was placed beside her, or if she isn't there; and only a scorer takes her out."""

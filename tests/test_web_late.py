@@ -14,7 +14,9 @@ from raceoffice.remarks import remark
 from raceoffice.series.abandoned import note_abandoned
 from raceoffice.series.folder import Folder
 from raceoffice.session.dialogue import Question
-from raceoffice.web.corrections import correct
+from raceoffice.session.seat import Seat
+from raceoffice.session.session import Session
+from raceoffice.web.corrections import correct, leave_rest
 from raceoffice.web.finish_order import Elsewhere
 from raceoffice.web.race_start import zone_of
 from raceoffice.web.requests import Wrong
@@ -22,6 +24,9 @@ from raceoffice.web.room import Room
 from raceoffice.web.tap_session import Asked
 from raceoffice.web.taps import Tap
 from web_devices import new_id
+
+# More entries than there are: the device has seen all.
+SEEN = 1000
 
 
 def sent_back(asked: Question) -> Any:
@@ -132,6 +137,68 @@ class Late(OnWater):
             session.look()
             session.do("abandon 1")
             self.assertEqual(session.facts.race("1").penalties, {"GBR7": ["ZFP", "ZFP"]})
+
+    def stopped(self, session: Session, id: str) -> None:
+        """The race is abandoned, in a window or by a tap, and its process is killed once GBR7 is cleared."""
+        for line in ("MARK 1 GBR7 OCS", "PENALTY 1 GBR7 ZFP"):
+            self.assertEqual(self.do("FINISH", "Ann", line, seen=SEEN), "taken")
+        exchange = Seat.exchange
+
+        def exchanged(seat: Seat, line: str, unread: Any = None) -> str:
+            if line.startswith("PENALTY "):
+                raise KeyboardInterrupt
+            return exchange(seat, line, unread)
+        with mock.patch.object(Seat, "exchange", exchanged), self.assertRaises(KeyboardInterrupt):
+            if id:
+                self.assertEqual(self.do("SCORER", "Cy", "ABANDON 1", id=id), "abandon")
+                self.do("SCORER", "Cy", "ABANDON 1", id=id, agreed=self.agreed)
+            else:
+                session.do("abandon 1")
+        session.disconnect()
+        self.again()
+        self.room.look()
+        self.assertEqual(self.room.facts.commands[-1], "CLEAR 1 GBR7")
+
+    def scorers_window(self) -> Session:
+        """A window of the scorer that says yes."""
+        session = Session(Folder(os.path.join(self.here, "cup")), "SCORER", "Di", lambda said: None, lambda asked: True)
+        session.connect()
+        self.addCleanup(session.disconnect)
+        return session
+
+    def test_abandoned_in_another_window(self) -> None:
+        """A window, or the web, is killed once a boat is cleared, and before she has her ZFP again: another window, and a tap,
+        give it back, after a question that has that. Nothing is given twice."""
+        for id, is_window in (("", True), ("", False), (new_id(), True), (new_id(), False)):
+            with self.subTest(id=id, is_window=is_window):
+                self.stopped(self.scorers_window(), id)
+                for _ in range(2):
+                    self.scorers_window().do("abandon 1") if is_window else self.abandon(1)
+                self.assertEqual(self.scorers_window().facts.commands[-2:], ["CLEAR 1 GBR7", "PENALTY 1 GBR7 ZFP"])
+                self.assertEqual([one for one in os.listdir(self.room.folder.file("office")) if one.startswith("abandoning")], [])
+                self.assertEqual(self.do("SCORER", "Cy", "CLEAR 1 GBR7", seen=SEEN), "taken")
+
+    def unfinished(self) -> Any:
+        """What is left, as the scorer's page shows it."""
+        left: Any = self.room.state(True)["unfinished"]
+        return left[0]
+
+    def test_left(self) -> None:
+        """What the scorer has left isn't sent when the race is abandoned again."""
+        self.stopped(self.scorers_window(), new_id())
+        leave_rest(self.room, {"id": self.unfinished()["id"]})
+        self.assertEqual(self.do("SCORER", "Cy", "ABANDON 1"), "noted")
+        self.assertEqual(self.room.facts.commands[-1], "CLEAR 1 GBR7")
+
+    def test_penalty_given_meanwhile(self) -> None:
+        """Somebody has given her the penalty again, and nothing else is left: then the scorer's page shows nothing that is left,
+        which would give it twice."""
+        id = new_id()
+        self.stopped(self.scorers_window(), id)
+        self.assertEqual(self.unfinished()["lines"], ["PENALTY 1 GBR7 ZFP"])
+        self.assertEqual(self.do("FINISH", "Ann", "PENALTY 1 GBR7 ZFP", seen=SEEN), "taken")
+        self.assertEqual(self.do("SCORER", "Cy", "ABANDON 1", id=id), "noted")
+        self.assertEqual(self.room.state(True)["unfinished"], [])
 
     def test_abandoned_once_more(self) -> None:
         """A yes is about the race that was abandoned by then: if it is abandoned once more before that comes, it is asked again."""

@@ -25,6 +25,8 @@ def abandon(seat: Seat, race: Race) -> bool:
         raise NotSent(remark("abandon-role", race=race.number, lines=barred, role=seat.role.lower()))
     if not (plan.lines or kept or sheet):
         note_abandoned(seat.folder, race.number)
+        # What a crash has left was sent by others.
+        seat.note_lines_of_race(race.number, [])
         seat.say_of("nothing-there", race=race.number)
         return True
     seat.tell_all(plan_said(seat.facts, race, plan, kept, seat.prefix))

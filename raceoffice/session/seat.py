@@ -12,6 +12,7 @@ from raceoffice.errors import Gone, NotSent, Trouble, said_of
 from raceoffice.program.journal import Race
 from raceoffice.program.link import Link
 from raceoffice.remarks import remark
+from raceoffice.series.abandoned import lines_noted, note_lines
 from raceoffice.series.at_the_line import AtTheLine
 from raceoffice.series.folder import Folder
 from raceoffice.series.kept_places import History, Places, Twin
@@ -51,8 +52,6 @@ class Seat:
         self.at_the_line = AtTheLine(folder)
         self.done: Done | None = None
         self.sent: dict[int, str] = {}
-        # The races that were begun to be taken away: how many entries there were, and the lines.
-        self.races_begun: dict[int, tuple[int, list[str]]] = {}
         self.at: int | None = None
         self.link: Link | None = None
         # Whether the office was closed for good when it went.
@@ -249,9 +248,9 @@ class Seat:
     # A race that is abandoned, of which a crash may leave a part
 
     def lines_begun(self, race: int) -> tuple[list[str], list[str]]:
-        """The lines of a race that was begun to be taken away: those that the journal has, and those that are left. A window
-        that dies forgets them."""
-        entries, lines = self.races_begun.get(race, (0, []))
+        """The lines of a race that was begun to be taken away, here or by somebody else: those that the journal has, and those
+        that are left."""
+        entries, lines = lines_noted(self.folder, race)
         # Of two lines that are the same, as of a boat that has ZFP twice, one may have been sent: each is looked for behind the last.
         since = map(as_kept, self.facts.commands[entries:])
         sent = list(itertools.takewhile(lambda line: as_kept(line) in since, lines))
@@ -263,4 +262,4 @@ class Seat:
 
     def note_lines_of_race(self, race: int, lines: list[str]) -> None:
         """Notes which lines take a race away before the first is sent; none once all were."""
-        self.races_begun[race] = len(self.facts.commands), lines
+        note_lines(self.folder, race, len(self.facts.commands), lines)

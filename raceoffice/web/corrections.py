@@ -13,6 +13,7 @@ from raceoffice.errors import NotSent
 from raceoffice.program.journal import Race
 from raceoffice.program.replay import Line
 from raceoffice.remarks import remark
+from raceoffice.series.abandoned import leave_lines
 from raceoffice.web import preview
 from raceoffice.web.finish_order import without_place
 from raceoffice.web.plans import asked_of, told_what_was_sent
@@ -56,8 +57,9 @@ def leave_rest(room: Room, values: Mapping[str, Any]) -> None:
     """Leaves a correction as it is: what is left of it isn't shown any more."""
     tap = tap_of(values)
     with room.lock:
-        if room.register.decisions.get(correction_of(tap.id)):
+        if lines := room.register.decisions.get(correction_of(tap.id)):
             room.register.decide(correction_of(tap.id), [])
+            leave_lines(room.folder, [line.text for line in lines])
         room.news()
 
 

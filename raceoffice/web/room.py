@@ -350,9 +350,10 @@ class Room:
         if any(sent.is_before(entry, at) and entry.split(maxsplit=3)[3] == line for at, entry in enumerate(journal, 1)):
             return False
         command, *rest = line.split()
-        sail = "".join(rest[:1] if command == "ENTER" else rest[1:2])
+        # A line that placed a boat by another went with either.
+        sails = rest[:1] if command == "ENTER" else rest[1:3] if command in ("TIE", "BEFORE") else rest[1:2]
         since = itertools.takewhile(lambda entry: as_kept(entry.line) != line, reversed(self.folder.logged()))
-        return not any(entry.line == f"removed {sail}" for entry in since)
+        return not {f"removed {sail}" for sail in sails}.intersection(entry.line for entry in since)
 
     def settle(self) -> None:
         """Notes what came of each tap that was begun and never ended, as the journal has it now."""

@@ -231,15 +231,22 @@ class TapSession(Session):
         return self.tap.line.startswith("ABANDON ")
 
     def lines_begun(self, race: int) -> tuple[list[str], list[str]]:
+        return self.own_lines_begun() if self.is_tap_begun else super().lines_begun(race)
+
+    @property
+    def is_tap_begun(self) -> bool:
+        """Whether some lines of this tap may have been sent."""
+        return bool(self.register.decisions.get(correction_of(lines_id(self.tap.id))))
+
+    def own_lines_begun(self) -> tuple[list[str], list[str]]:
+        """The lines of this tap: those that the journal has, and those that are left."""
         key = correction_of(lines_id(self.tap.id))
-        if not self.register.decisions.get(key):
-            return [], []
         self.lines = self.register.count_taken(lines_id(self.tap.id), self.facts.sheet.journal)
         whole = [line.text for line in self.register.corrections[key]]
         return whole[:self.lines], whole[self.lines:]
 
     def lines_agreed(self, lines: list[str]) -> list[str]:
-        sent, left = self.lines_begun(self.facts.race(self.tap.line.split()[1]).number)
+        sent, left = self.own_lines_begun() if self.is_tap_begun else ([], [])
         # What somebody else has given back isn't given twice.
         is_what_is_left = lines in (left, list(itertools.dropwhile(is_given_back, left)))
         return sent + left if (sent or left) and is_what_is_left else lines
@@ -250,8 +257,9 @@ class TapSession(Session):
         taken = self.register.corrections.get(key, [])[:self.lines]
         if lines:
             self.register.decide(key, [*taken, *(Line(self.role, line) for line in lines)])
-        elif self.register.decisions.get(key):
+        elif self.is_tap_begun:
             self.register.decide(key, [])
+        super().note_lines_of_race(race, lines)
 
     # What is noted in the register before it is done
 
