@@ -41,8 +41,9 @@ class TimedTrial(WebTrial):
 
     def begun(self, phone: Device, start: str, title: str, name: str = "") -> None:
         """Types the start of a class."""
-        # Which classes are by corrected time is known once the page has the boats of each.
-        phone.until("![...document.querySelectorAll('#races .race')].some(one => one.textContent.includes('none to come'))")
+        # The button asks about the classes that the page knows when it is drawn.
+        phone.until("import('/office/static/finish-state.js').then(({page}) => "
+                    "page.classes.every(one => page.states[one.class]) && (page.redraw(), true))")
         phone.click("#start")
         if name:
             phone.choose(name)
