@@ -14,7 +14,6 @@ import threading
 import unittest
 
 import browser
-from browser import Browser
 import helpers
 from raceoffice.program.link import Link
 from raceoffice.results import exports
