@@ -44,8 +44,8 @@ def abandonments(folder: Folder) -> dict[int, int]:
 
 
 def note_lines(folder: Folder, race: int, entries: int, lines: list[str]) -> None:
-    """Notes, on the disk, by which lines a race is being taken away from a journal of so many entries; that it is done, if
-    there are none."""
+    """Notes, on the disk, by which lines a race is being taken away from a journal of `entries` entries; that it is done,
+    if there are none."""
     path = begun_file(folder, race)
     try:
         if lines:
