@@ -116,7 +116,7 @@ def fault_of_codes(entry: Entry) -> Remark | None:
 
 
 def columns_left(data: bytes) -> list[str]:
-    """The columns of a sheet that nothing reads, but for the names and ratings of an entry list."""
+    """The columns of a sheet that nothing reads, except the names and ratings of an entry list."""
     heads = table_of(data).heads
     known = [*columns(heads, SHEET).values(), *columns(heads, ENTRIES).values(), *rating_columns(heads).values()]
     return columns_but(data, known)

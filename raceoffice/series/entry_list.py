@@ -89,7 +89,7 @@ def columns_left(data: bytes) -> list[str]:
 
 
 def columns_but(data: bytes, read_ones: Collection[int]) -> list[str]:
-    """The columns of a list that have something in them, but for those that are read."""
+    """The columns of a list that have something in them, except those that are read."""
     table = table_of(data)
     filled = {at for _, row in [(0, table.heads), *table.rows] for at, cell in enumerate(row) if cell.strip()}
     return [on_one_line(table.cell(table.heads, at)) or remark("list-column", number=at + 1)
