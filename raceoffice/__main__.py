@@ -12,6 +12,11 @@ def main() -> int:
     except KeyboardInterrupt:
         # What `interruption` has, which may not be there yet
         return 130
+    except MemoryError:
+        pass
+    # What took it is gone by now.
+    print("this computer gives no more memory", file=sys.stderr)
+    return 2
 
 
 if __name__ == "__main__":

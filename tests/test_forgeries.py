@@ -24,7 +24,7 @@ import helpers
 
 from allowed import odd_parts
 from forger import ForgedPages, Forger, Path, journal_of, put, resealed, seals, whole_of
-from raceoffice import characters
+from raceoffice import __main__ as command, characters
 from raceoffice.errors import ForeignPage, Unsure
 from raceoffice.program import replay
 from raceoffice.program.explanation import explanation_of
@@ -582,6 +582,47 @@ class Forgeries(ForgedPages):
         self.assertEqual(status, 1)
         self.assertIn("the page is longer than the right one", said)
         self.assertLess(tracemalloc.get_traced_memory()[1], 300_000_000)
+
+    def test_memory_of_parts(self) -> None:
+        """A page of parts or lines that the right one hasn't is taken apart no further than that has any."""
+        page = self.made["results"]
+        for piece in ("<td>", "<tr>", "<table>", "<p>x", "ab\n", "\n"):
+            text = page[:1000] + "<table><tr>" + piece * (100_000 // len(piece))
+            tracemalloc.start()
+            self.addCleanup(tracemalloc.stop)
+            self.assertNotEqual(verifier.first_difference(text, page, lambda: None), "")
+            self.assertLess(tracemalloc.get_traced_memory()[1], 1_500_000, piece)
+            tracemalloc.stop()
+        self.assertIn("has more cells and texts than the right one, and line ", self.why(page.replace("</main>", "<p>x" * 9000)))
+
+    def test_lines(self) -> None:
+        """The first line that differs is that which lists of lines give."""
+        chosen = random.Random(7)
+        for trial in range(helpers.trials(3000)):
+            one, other = ("".join(chosen.choice("ab\n") for _ in range(chosen.randint(0, 7))) for _ in range(2))
+            if one != other:
+                ours, others = one.split("\n"), other.split("\n")
+                at = visible.first_of(ours, others)
+                assert at is not None
+                wanted = (at + 1, ours[at].strip() if at < len(ours) else "nothing")
+                before = visible.STEP if trial % 50 == 0 else 0
+                long = "x\n" * before
+                self.assertEqual(visible.line_of(long + one, long + other), (wanted[0] + before, wanted[1]), (one, other))
+
+    def test_no_memory(self) -> None:
+        """Where the memory runs out nothing can be said of a page, and of the next one all."""
+        page = self.made["results"]
+        took: list[Callable[[str], page_data.Kept]] = [unittest.mock.Mock(side_effect=MemoryError), page_data.found_in]
+        with unittest.mock.patch("raceoffice.traces.fault_sentence", side_effect=MemoryError), \
+                unittest.mock.patch.object(verifier, "found_in", lambda text: took.pop(0)(text)):
+            status, said = self.said(page, page)
+        self.assertEqual(status, 2)
+        self.assertIn("0.html: not verified: this computer gives no more memory, and the page takes more.\n", said)
+        self.assertIn("1.html: verified.\n", said)
+        told = io.StringIO()
+        with unittest.mock.patch("raceoffice.cli.main", side_effect=MemoryError), contextlib.redirect_stderr(told):
+            self.assertEqual(command.main(), 2)
+        self.assertEqual(told.getvalue(), "this computer gives no more memory\n")
 
     def test_memory_of_charts(self) -> None:
         """Of the standings after each race the ranks are kept, and not all scores again: a page may have many series."""

@@ -215,6 +215,15 @@ class Times(helpers.Series):
         self.sheet(1, "Sail,Start,Finish,Laps\nGBR 101,14:05:00,DNF,2\nGBR 7,,15:03:12,\n")
         self.assertRegex(self.said("1"), r"GBR7 +3492 \* 2 \* 1000 / 2 / 985 ")
 
+    def test_columns_left(self) -> None:
+        """A column that nothing reads is named: its heading may be one that isn't known. Those of entry lists aren't."""
+        self.sheet(1, "Sail,Helm,Boat,Club,Rating,Elapsed,Laps,Notes\nGBR 7,x,y,z,985,3600,3,\n")
+        self.assertIn("\nNot read: Notes.\n1 boat", self.said("1"))
+        self.sheet(1, "Sail;Helm;Elapsed;Rounds;;Elapsed\nGBR 7;x;3600;3;late;\n")
+        self.assertIn("\nNot read: Rounds, column 5 and Elapsed.\n", self.said("1"))
+        self.sheet(1, SHEET)
+        self.assertNotIn("Not read", self.said("1"))
+
     def test_faults(self) -> None:
         """A fault of a list, a sheet or the rules is said with its row, and with its column."""
         for sheet, wanted in [
@@ -232,6 +241,10 @@ class Times(helpers.Series):
                 ("Sail,Elapsed,Laps\nGBR 7,3600,0\n", "row 2, column Laps: '0' isn't laps from 1 to 99"),
                 ("Sail,Elapsed,Distance\nGBR 7,3600,1.234\n", "row 2, column Distance: '1.234' isn't"),
                 ("Sail,Elapsed\nGBR/7,3600\n", 'row 2: the sail "GBR/7" has a slash'),
+                ("Sail,Start,Finish,Code\nGBR 7,14:00:00,DNF,DNF\nNED 12,,DNF,ocs\n",
+                 "row 3: DNF and OCS are two codes, and a sheet has one of a boat"),
+                ("Sail,Elapsed,Notes\nGBR 7,3600,\"late\nNED 12,3700,\nGBR 101,3800,\n",
+                 "times/race-1.csv, row 2: a quotation mark isn't closed where its cell ends"),
                 ("Sail,Elapsed\nGBR 7,RAF\n", "row 2: RAF is neither a time nor a code"),
                 ("Sail,Elapsed\nGBR 7,TLE\n", "row 2: TLE isn't for a sheet of times")]:
             self.sheet(1, sheet)

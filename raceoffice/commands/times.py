@@ -21,7 +21,7 @@ each correction of a sheet or a rating: boats whose time has changed are struck 
 
 A code, such as DNF, RET or OCS, may also be in a column Code; DSQ and DNE are the jury's to type. A boat with
 neither time nor code is named, and has no line. A start without seconds, 14:05, is on the minute; a finish
-needs its seconds. `overnight = 2` names a race that goes on past midnight. Semicolons or tabs may be between
+needs its seconds. A column that isn't read is named. `overnight = 2` names a race that goes on past midnight. Semicolons or tabs may be between
 the columns, and then a comma in a number is a decimal comma. If a row is wrong, it is named with its column,
 and nothing is sent. If a line is refused, those of the other boats are sent all the same, and those that weren't
 taken are named at the end.

@@ -9,8 +9,8 @@ from dataclasses import dataclass
 
 from raceoffice.program.codes import CODES
 from raceoffice.remarks import Remark, remark
-from raceoffice.series.entry_list import fault_of, plain
-from raceoffice.series.headings import SHEET, columns
+from raceoffice.series.entry_list import columns_but, fault_of, plain
+from raceoffice.series.headings import ENTRIES, SHEET, columns, rating_columns
 from raceoffice.series.race_sheets import CARRIED, FORMS, TIMES, is_form
 from raceoffice.series.read_list import Table, as_csv, table_of, wrong_form
 
@@ -23,11 +23,13 @@ DECIDED = ("DPI", "NSC", "PRP", "RDG", "SCP", "T1", "TLE", "ZFP")
 
 @dataclass(frozen=True)
 class Entry:
-    """A boat's row: her code if she has one, and otherwise what the program works her time out from."""
+    """A boat's row: her code if she has one, and otherwise what the program works her time out from. `other` is a second code in
+    it, if there is one."""
     number: int
     sail: str
     code: str
     cells: dict[str, str]
+    other: str = ""
 
     @property
     def is_timed(self) -> bool:
@@ -47,7 +49,8 @@ def entry_of(table: Table, places: dict[str, int], number: int, row: list[str],
             # Of a boat with a code nobody looks at it: so nobody below has it.
             cells[key] = ""
         above[key] = cells[key] = cells[key] or above.get(key, "")
-    return Entry(number, plain(table.cell(row, places.get("sail"))), codes[0] if codes else "", cells)
+    first, other = [*dict.fromkeys(codes), "", ""][:2]
+    return Entry(number, plain(table.cell(row, places.get("sail"))), first, cells, other)
 
 
 def entries_of(data: bytes, name: str) -> tuple[list[Entry], list[Remark]]:
@@ -91,7 +94,7 @@ def fault_of_heads(places: dict[str, int], name: str) -> Remark | None:
 
 def fault_of_entry(entry: Entry, shown: dict[str, str], name: str) -> Remark | None:
     """What is wrong with a row, and in which column; None if nothing is."""
-    if fault := fault_of(entry.sail) or fault_of_code(entry.code):
+    if fault := fault_of(entry.sail) or fault_of_code(entry.code) or fault_of_codes(entry):
         return fault_in_row(name, entry, fault)
     for key, (_, wanted) in FORMS.items():
         text = entry.cells[key]
@@ -105,6 +108,18 @@ def fault_of_code(code: str) -> Remark | None:
     if not code or code in CODES:
         return None
     return remark("sheet-decided" if code in DECIDED else "sheet-no-code", code=code)
+
+
+def fault_of_codes(entry: Entry) -> Remark | None:
+    """Which two codes a row has; None if it hasn't two."""
+    return remark("sheet-codes", code=entry.code, other=entry.other) if entry.other else None
+
+
+def columns_left(data: bytes) -> list[str]:
+    """The columns of a sheet that nothing reads, except the names and ratings of an entry list."""
+    heads = table_of(data).heads
+    known = [*columns(heads, SHEET).values(), *columns(heads, ENTRIES).values(), *rating_columns(heads).values()]
+    return columns_but(data, known)
 
 
 def for_program(found: list[Entry]) -> bytes:

@@ -11,7 +11,7 @@ from dataclasses import dataclass
 from fractions import Fraction
 
 from raceoffice import system
-from raceoffice.corrected.sheets import Entry, entries_of, for_program
+from raceoffice.corrected.sheets import Entry, columns_left, entries_of, for_program
 from raceoffice.errors import Trouble
 from raceoffice.files import edited_text
 from raceoffice.program.codes import OF_JURY
@@ -172,6 +172,12 @@ class Sheets:
             raise Trouble(*wrong)
         return found
 
+    def left_in_words(self, race: int) -> str:
+        """Which columns of a race's sheet aren't read; empty if all are. One may be headed otherwise than it has to be, as that of
+        laps: then each boat has one."""
+        left = columns_left(bytes_of(self.folder.file(sheet_name(race))))
+        return remark("list-unread", columns=left) if left else ""
+
     def times(self, race: int, timed: list[Entry]) -> list[Time]:
         """The corrected times of boats, by the program. A Trouble names the row that has a fault."""
         if not timed:
@@ -307,6 +313,8 @@ def show(series: Times, race: int, found: Compared) -> None:
     say(f"Race {race}, {SYSTEMS[rules.system]}, {ROUNDINGS[rules.rounding]}"
         + (", past midnight" if race in rules.overnight else ""))
     print("\n".join([f"   {'sail':<12} {'sum':<36} {'exact':>12} {'seconds':>7}", *found.shown]), flush=True)
+    if left := series.left_in_words(race):
+        say(left)
     changes = f" Race {race} counts: its results will change." if found.counts and found.lines else ""
     say(f"{count(len(found.shown), 'boat')}, {count(len(found.lines), 'line')}.{changes}")
 

@@ -2,22 +2,42 @@
 from __future__ import annotations
 
 import textwrap
+import unicodedata
 from collections.abc import Sequence
 
+from raceoffice.characters import is_right_to_left
 from raceoffice.decisions.points import words_of
 from raceoffice.program.standing import Row, Score
 from raceoffice.results.html.overall import tie_words
-from raceoffice.results.html.page import MEANING
+from raceoffice.results.html.page import LEFT_TO_RIGHT, MEANING
 from raceoffice.results.html.sealing import seal_words
 from raceoffice.results.snapshot import Snapshot, told_apart
 from raceoffice.wording import count
 
 COLUMNS = 72
+# It stands for the second column of a sign that takes two, as those of Chinese, until a line is made. No text has it.
+SECOND = "\0"
+
+
+def spread(text: str) -> str:
+    """A text with as many signs as it takes columns, or more."""
+    return "".join(f"{sign}{SECOND}" if unicodedata.east_asian_width(sign) in "WF" else sign for sign in text)
 
 
 def wrapped(text: str, first: str = "", more: str = "") -> list[str]:
-    return textwrap.wrap(text, COLUMNS, initial_indent=first, subsequent_indent=more,
-                         break_on_hyphens=False)
+    wide = spread(text)
+    # A line may be broken between the two columns of a sign, which then belong to the line before.
+    lines = textwrap.wrap(wide, COLUMNS - (wide != text), initial_indent=first, subsequent_indent=more,
+                          break_on_hyphens=False)
+    return [line.replace(SECOND, "") for line in lines]
+
+
+def cut(wide: str, room: int) -> str:
+    """A text that was spread, and takes no more columns than there is room for."""
+    if len(wide) <= room:
+        return wide
+    end = room - 1
+    return f"{wide[:end - 1 if wide[end] == SECOND else end]}…"
 
 
 def cell(number: int, score: Score) -> str:
@@ -34,17 +54,18 @@ def row_lines(view: Snapshot, row: Row) -> list[str]:
     first = f"{rank:>4} {boat.sail:<12} "
     net = row.net if view.standing.races else "-"
     room = COLUMNS - len(first) - len(net) - 1
-    names = ", ".join(text for text in (boat.helm, boat.name, boat.club) if text)
-    names = names if len(names) <= room else names[:room - 1] + "…"
+    names = cut(spread(", ".join(text for text in (boat.helm, boat.name, boat.club) if text)), room)
+    # Behind a name from right to left the net would be shown before it, and a line with digits alone before it be turned.
+    mark = LEFT_TO_RIGHT if is_right_to_left(names) else ""
     scores = "  ".join(cell(*both) for both in zip(view.standing.races, row.scores))
     total = f"  total\u00a0{view.totals[row.sail]}" if view.totals else ""
-    return [f"{first}{names:<{room}} {net}",
+    return [f"{mark}{first}{names:<{room}}{mark} {net}".replace(SECOND, ""),
             *(line.replace("\u00a0", " ") for line in wrapped(scores + total, " " * 5, " " * 5))]
 
 
 def heading(view: Snapshot) -> list[str]:
     shown = view.settings
-    lines = wrapped(view.title) + [("=" * min(COLUMNS, len(view.title)))]
+    lines = wrapped(view.title) + [("=" * min(COLUMNS, len(spread(view.title))))]
     lines += wrapped(shown.club) if shown.club else []
     lines += wrapped(f"{shown.state.capitalize()}. Last changed {view.when(view.changed)}.")
     lines += wrapped(shown.reason) if shown.reason else []

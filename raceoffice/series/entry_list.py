@@ -4,7 +4,7 @@ from __future__ import annotations
 import functools
 import re
 import string
-from collections.abc import Mapping, Sequence
+from collections.abc import Collection, Mapping, Sequence
 from dataclasses import dataclass
 
 from raceoffice.errors import Trouble
@@ -84,11 +84,16 @@ def given(path: str) -> bytes:
 
 def columns_left(data: bytes) -> list[str]:
     """The columns that nothing reads, in a series by ratings either: their headings, or their numbers."""
+    heads = table_of(data).heads
+    return columns_but(data, {*columns(heads, ENTRIES).values(), *rating_columns(heads).values()})
+
+
+def columns_but(data: bytes, read_ones: Collection[int]) -> list[str]:
+    """The columns of a list that have something in them, except those that are read."""
     table = table_of(data)
-    read_ones = {*columns(table.heads, ENTRIES).values(), *rating_columns(table.heads).values()}
     filled = {at for _, row in [(0, table.heads), *table.rows] for at, cell in enumerate(row) if cell.strip()}
     return [on_one_line(table.cell(table.heads, at)) or remark("list-column", number=at + 1)
-            for at in sorted(filled - read_ones)]
+            for at in sorted(filled - set(read_ones))]
 
 
 def left_in_words(data: bytes) -> Remark | None:
@@ -159,7 +164,7 @@ def faults_of(data: bytes, name: str) -> list[Remark]:
     for number, row in table.rows:
         if len(faults) >= FAULTS:
             return faults
-        if fault := fault_of_row(row, at, found):
+        if fault := fault_of_row(row, at, found) or fault_of_names(table, row, places):
             helm = on_one_line(table.cell(row, who))
             faults.append(remark("list-row-of", name=name, row=number, helm=helm, fault=fault) if helm and len(row) > at
                           else remark("list-row", name=name, row=number, fault=fault))
@@ -180,6 +185,14 @@ def fault_of_row(row: list[str], at: int, found: dict[str, int]) -> Remark | Non
         return remark("row-sail", fault=fault)
     above = found.get(plain(row[at]))
     return remark("row-twice", written=row[at].strip(), above=above) if above else None
+
+
+def fault_of_names(table: Table, row: Sequence[str], places: Mapping[str, int]) -> Remark | None:
+    """What is wrong with the names of a boat; None if nothing is. No name has several lines with what parts columns: a quotation
+    mark that isn't closed may be ended by that of another row."""
+    names = [table.cell(row, at) for at in places.values()]
+    has_rows = any(table.separator in name and re.search("[\r\n]", name) for name in names)
+    return remark("row-unclosed") if has_rows else None
 
 
 def near(sail: str, boats: list[str]) -> list[str]:

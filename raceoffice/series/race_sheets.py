@@ -17,7 +17,7 @@ from raceoffice.series.copies import STAMP
 from raceoffice.series.entry_list import plain
 from raceoffice.series.folder import Folder
 from raceoffice.series.headings import SHEET, columns
-from raceoffice.series.read_list import as_csv, bytes_of, table_of
+from raceoffice.series.read_list import Table, as_csv, bytes_of, name_of, table_of, wrong_form
 
 SHEETS = "times"
 # An empty one is that of the boat above.
@@ -58,11 +58,19 @@ def sheets_with(folder: Folder, sail: str) -> list[str]:
     found = []
     for race in races_with_sheet(folder) if folder.settings.handicap else []:
         with contextlib.suppress(Trouble, OSError):
-            held = table_of(bytes_of(folder.file(sheet_name(race))))
+            held = sheet_at(folder.file(sheet_name(race)))
             place = columns(held.heads, SHEET).get("sail", len(held.heads))
             if sail in [plain(cell) for _, row in held.rows for cell in row[place:place + 1]]:
                 found.append(sheet_name(race))
     return found
+
+
+def sheet_at(path: str) -> Table:
+    """A sheet with its rows; a Trouble if it is none, or if a cell of it holds rows below."""
+    data = bytes_of(path)
+    if wrong := wrong_form(data, name_of(path)):
+        raise Trouble(wrong)
+    return table_of(data)
 
 
 def take_out_of_sheets(folder: Folder, sail: str) -> None:
@@ -75,7 +83,7 @@ def take_out_of_sheets(folder: Folder, sail: str) -> None:
 
 def take_row(path: str, sail: str) -> None:
     """Takes a boat's row out of a sheet. A sheet without a row is none: the file goes then."""
-    held = table_of(bytes_of(path))
+    held = sheet_at(path)
     rows = rows_without([held.heads, *(row for _, row in held.rows)], sail, held.separator != ",")
     if len(rows) == len(held.rows) + 1:
         return
@@ -123,7 +131,7 @@ def sheet_without_race(folder: Folder, race: int, jury: Collection[str]) -> byte
     if not folder.settings.handicap or race not in races_with_sheet(folder):
         return b""
     try:
-        held = table_of(bytes_of(folder.file(sheet_name(race))))
+        held = sheet_at(folder.file(sheet_name(race)))
     except (Trouble, OSError):
         return b""
     before = rows_without([held.heads, *(row for _, row in held.rows)], "", held.separator != ",")

@@ -73,6 +73,26 @@ def rows_of(text: str, separator: str) -> Rows:
     return [(at, row) for at, row in enumerate(rows, 1) if not all(map(BLANK.fullmatch, row))]
 
 
+def row_torn(text: str, separator: str) -> int:
+    """The number of the first row that has lines below it in a cell whose quotation mark isn't closed, or is closed in the midst
+    of one; 0 if there is none."""
+    lines, begin = list(io.StringIO(text, newline="")) if '"' in text else [], 0
+    rows = csv.reader(lines, delimiter=separator)
+    for number, _ in enumerate(rows, 1):
+        if rows.line_num > begin + 1 and not is_closed(lines[begin:rows.line_num], separator):
+            return number
+        begin = rows.line_num
+    return 0
+
+
+def is_closed(lines: Sequence[str], separator: str) -> bool:
+    """Whether each quotation mark of a row on these lines has another that ends its cell."""
+    try:
+        return len(list(csv.reader(lines, delimiter=separator, strict=True))) == 1
+    except csv.Error:
+        return False
+
+
 def heading_at(rows: Rows) -> int | None:
     """At which of the first rows the headings are: the first with one of a sail's; None if there is none."""
     return next((at for at, (_, row) in enumerate(rows[:FIRST_ROWS])
@@ -115,7 +135,10 @@ def wrong_form(data: bytes, name: str) -> Remark | None:
         return remark("list-spreadsheet", name=name)
     if b"\0" in data[:1000] and not data.startswith(tuple(MARKS)):
         return remark("list-unmarked", name=name)
-    return None if table_of(data).heads else remark("list-empty", name=name)
+    table = table_of(data)
+    if torn := row_torn(decoded(data), table.separator):
+        return remark("list-row", name=name, row=torn, fault=remark("row-unclosed"))
+    return None if table.heads else remark("list-empty", name=name)
 
 
 def as_csv(rows: Sequence[Sequence[str]]) -> bytes:

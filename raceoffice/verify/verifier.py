@@ -34,7 +34,7 @@ from raceoffice.verify import page_data
 from raceoffice.verify.own_words import USUAL, explained, laid_out, stale
 from raceoffice.verify.like_a_row import is_like_a_row, names_leader
 from raceoffice.verify.page_data import Kept, found_in, moment_of, still_to_come, wrong_confirmation
-from raceoffice.verify.visible import Seen, difference, first_of, place, standing_of
+from raceoffice.verify.visible import Seen, difference, first_of, line_of, place, standing_of
 from raceoffice.wording import count
 
 CONFIRMED = re.compile('<!DOCTYPE html>\n<html lang="en" data-live="(?:yes|no)" data-every="[0-9]{1,4}" '
@@ -44,6 +44,8 @@ PLAIN_NAME = re.compile(r"[\w./~+-]+")
 # Signs of a message about what differs. A page that is longer than the right one by this many isn't taken
 # apart to find the first cell that differs.
 MESSAGE, LONGER = 400, 1 << 16
+# Cells and texts that it may have more than the right one, and is still taken apart whole: each takes a hundred bytes.
+MORE = 1000
 # The most texts with odd signs that are named, and series whose scores are kept.
 BEWARES, SCORED = 5, 20
 # Seconds after which nothing more of a page is worked out. The program has its own for each run.
@@ -70,6 +72,11 @@ class Verifier:
         self.views: dict[str, Snapshot] = {}
         self.last: Rebuilt | None = None
         self.end = 0.0
+
+    def forget(self) -> None:
+        """Forgets what was scored before."""
+        self.views.clear()
+        self.last = None
 
     def rebuilt(self, kept: Kept, length: int = LARGEST) -> Rebuilt:
         """The page that raceoffice writes of what a page carries that has so many characters."""
@@ -218,17 +225,16 @@ def sail_cell(boat: Boat) -> str:
 
 def first_difference(text: str, wanted: str, ask: Callable[[], None]) -> str:
     """Where a page first differs from what it has to be: a cell, a text, or else a line of its file."""
-    ours, others = text[:len(wanted) + LONGER].split("\n"), wanted.split("\n")
-    at = first_of(ours, others) or 0
-    line = f"line {at + 1} of the file isn't as raceoffice writes it: {quoted(part(ours, at))}"
+    number, found = line_of(text, wanted)
+    line = f"line {number} of the file isn't as raceoffice writes it: {quoted(found)}"
     if len(text) > len(wanted) + LONGER:
         return f"the page is longer than the right one, and {line}"
-    return difference(Seen(text, ask), Seen(wanted, ask)) or (
+    right = Seen(wanted, ask)
+    seen = Seen(text, ask, right.parts + MORE)
+    if seen.is_cut:
+        return f"the page has more cells and texts than the right one, and {line}"
+    return difference(seen, right) or (
         f"no cell or text that differs was found, but {line}. A browser may show something else")
-
-
-def part(lines: list[str], at: int) -> str:
-    return lines[at].strip() if at < len(lines) else "nothing"
 
 
 # What is said
@@ -349,9 +355,20 @@ def name_shown(path: str) -> str:
 
 
 def outcome(verifier: Verifier, path: str) -> Outcome:
-    """Verifies a page."""
+    """Verifies a page. Where the memory runs out nothing is said of it until what took that is gone."""
     try:
-        with guarded("", ForeignPage, Unsure, ValueError):
+        return found_of(verifier, path)
+    except MemoryError:
+        pass
+    verifier.forget()
+    why = "this computer gives no more memory, and the page takes more"
+    return Outcome(UNSURE, (f"{name_shown(path)}: not verified: {sentence(why)}",), {"page": path, "result": "unsure", "why": why})
+
+
+def found_of(verifier: Verifier, path: str) -> Outcome:
+    """The same. A MemoryError if there isn't enough of it."""
+    try:
+        with guarded("", ForeignPage, Unsure, ValueError, MemoryError):
             rebuilt = verifier.verified(text_of_page(path))
             said = (*warnings(rebuilt, name_shown(path)), f"{name_shown(path)}: verified.", *report(rebuilt, verifier.program))
             return Outcome(VERIFIED, said,

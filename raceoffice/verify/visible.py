@@ -2,6 +2,7 @@
 from __future__ import annotations
 
 import html
+import math
 import os
 import re
 from collections.abc import Callable, Iterator
@@ -32,6 +33,8 @@ BEFORE = 20
 OFTEN = 10_000
 # Parts inside one another, and signs of a cell to which more are added. The package's pages have fewer.
 DEEPEST, LONGEST = 40, 10_000
+# Signs that are compared at once, to find where two texts differ.
+STEP = 1 << 16
 
 
 def tokens(page: str) -> Iterator[tuple[str, str]]:
@@ -72,9 +75,10 @@ class Table:
 
 class Seen:
     """A page, taken apart into its tables and its other texts. Meanwhile `ask` is called again and again, which may end it by
-    what it raises."""
+    what it raises. Of a page with more tables, rows, cells and texts than `most` the rest is left: it `is_cut`."""
 
-    def __init__(self, page: str, ask: Callable[[], None] = lambda: None) -> None:
+    def __init__(self, page: str, ask: Callable[[], None] = lambda: None, most: float = math.inf) -> None:
+        self.parts, self.is_cut = 0, False
         self.tables: list[Table] = []
         self.texts: list[tuple[str, str]] = []
         self.open: list[str] = []
@@ -86,6 +90,9 @@ class Seen:
             if at % OFTEN == 0:
                 ask()
             self.take(kind, text)
+            if self.parts > most:
+                self.is_cut = True
+                break
         self.end_text()
 
     def take(self, kind: str, text: str) -> None:
@@ -102,6 +109,7 @@ class Seen:
         name = text.partition(" ")[0].rstrip("/").lower()
         if name in BLOCKS or name in ("table", "td", "th"):
             self.end_text()
+        self.parts += name in ("table", "tr", "td", "th")
         if name == "table":
             self.tables.append(Table())
         elif name == "tr" and self.tables:
@@ -136,6 +144,7 @@ class Seen:
         elif "table" in self.open and "caption" in self.open and self.tables:
             self.tables[-1].caption = longer(self.tables[-1].caption, text)
         else:
+            self.parts += 1
             where = [tag for tag in self.open if tag in BLOCKS]
             self.texts.append((where[-1] if where else "body", text))
 
@@ -179,6 +188,28 @@ def first_of(found: list[str], wanted: list[str]) -> int | None:
     """The first place at which two lists differ."""
     at = next((at for at, (one, other) in enumerate(zip(found, wanted)) if one != other), None)
     return min(len(found), len(wanted)) if at is None and len(found) != len(wanted) else at
+
+
+def same_until(one: str, other: str) -> int:
+    """How many signs two texts begin alike."""
+    at, end = 0, min(len(one), len(other))
+    while at < end and one[at:at + STEP] == other[at:at + STEP]:
+        at += STEP
+    return min(end, at + len(os.path.commonprefix([one[at:at + STEP], other[at:at + STEP]])))
+
+
+def line_of(found: str, wanted: str) -> tuple[int, str]:
+    """The number of the first line in which two texts differ, and how the first has it. No list of lines is made of them: one
+    takes many times as much memory as a text of short lines."""
+    at = same_until(found, wanted)
+    longer = found if len(found) > len(wanted) else wanted
+    # One ends with the line that is the same in both.
+    at += at == min(len(found), len(wanted)) and longer[at:at + 1] == "\n"
+    number = longer.count("\n", 0, at) + 1
+    if at > len(found):
+        return number, "nothing"
+    begin, end = found.rfind("\n", 0, at) + 1, found.find("\n", at)
+    return number, found[begin:end if end >= 0 else len(found)].strip()
 
 
 def both(found: str, wanted: str) -> tuple[str, str]:
