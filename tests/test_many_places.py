@@ -14,14 +14,14 @@ from raceoffice.series.kept_places import History, Note, Places
 from raceoffice.series.line_order import LineOrder
 from web_devices import SAILS
 
-# How many places are kept and dropped before the taps that are looked at; and what those may follow in all.
+# How many places are kept and dropped before the taps that are counted; and what those may follow in all.
 PLACES, MOST = 40, 30
 
 
 class Taps(OnWater):
     def test_followed_once(self) -> None:
         """A device keeps places and drops them, and strikes and records a boat. From then on a tap follows what has come since
-        alone, in that race and in another: the office would stand still for all."""
+        alone, in that race and in another: else all would wait for it."""
         for at in range(1, PLACES + 1):
             self.assertIsNotNone(self.phone.send(1, "? 1"))
             if at < PLACES:
