@@ -250,7 +250,7 @@ class LineOrder:
 @dataclass(frozen=True)
 class Followed:
     """An order, which nobody changes, and what was followed of a race for it: the journal, how places are kept, and what is noted
-    of entries. Journal and notes grow all the time, and each tap asks for the order: so it goes on from the one before."""
+    of entries. Journal and notes grow all the time, and each tap asks for the order: so it goes on from an earlier one."""
     journal: list[str] = field(default_factory=list)
     kept: list[Kept] = field(default_factory=list)
     meant: Mapping[int, Meant] = field(default_factory=dict)
@@ -265,14 +265,13 @@ class Followed:
 
 
 def followed(number: int, journal: Sequence[str], kept: Sequence[Kept], meant: Mapping[int, Meant],
-             before: Followed = Followed()) -> Followed:
-    """Follows the lines of a race, from where it was followed `before` if that comes first. `meant` has what is noted of some
+             earlier: Sequence[Followed] = ()) -> Followed:
+    """Follows the lines of a race, from where it was followed `earlier` if that comes first. `meant` has what is noted of some
     entries, by their numbers."""
     journal, kept = list(journal), list(kept)
-    if not before.is_beginning_of(journal, kept, meant):
-        before = Followed()
-    order, since = before.order.copy(), len(before.journal)
-    order.go_on(number, journal, kept[len(before.kept):], meant, since)
+    before = next((one for one in earlier if one.is_beginning_of(journal, kept, meant)), Followed())
+    order = before.order.copy()
+    order.go_on(number, journal, kept[len(before.kept):], meant, len(before.journal))
     return Followed(journal, kept, of_first(meant, len(journal)), order)
 
 
