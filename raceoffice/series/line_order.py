@@ -261,7 +261,8 @@ class Followed:
         entries, places = len(self.journal), len(self.kept)
         is_same = self.journal == journal[:entries] and self.kept == kept[:places] and self.meant == of_first(meant, entries)
         # A place that was kept when the journal had more entries than it has now comes elsewhere once it has those again.
-        return is_same and all(one.entries <= entries for one in self.kept) and all(one.entries >= entries for one in kept[places:])
+        is_before = all(one.entries <= entries for one in self.kept)
+        return is_same and is_before and all(one.entries >= entries for one in kept[places:])
 
 
 def followed(number: int, journal: Sequence[str], kept: Sequence[Kept], meant: Mapping[int, Meant],

@@ -25,15 +25,16 @@ def series_beside(parent: str, served: Collection[str], reading: Reading) -> lis
     found = {name: may_hang for name, may_hang in folders_in(parent).items() if name not in served}
     paths = {name: os.path.join(parent, name) for name in found}
     # There may be thousands of folders: those that hang only with the one that they are in have one thread.
-    some = {path: [path] for name, path in paths.items() if found[name]} | {parent: [paths[name] for name in found if not found[name]]}
+    apart, together = ([paths[name] for name in found if found[name] is may_hang] for may_hang in (True, False))
+    some = {parent: together} | {path: [path] for path in apart}
     answers = reading.answers({name: functools.partial(settings_in, group) for name, group in some.items()})
     read = {path: one for answer in answers.values() for path, one in answer.items()}
     return [{"name": name, "title": one.title, "state": one.state} for name, path in paths.items() if (one := read.get(path))]
 
 
 def folders_in(parent: str) -> dict[str, bool]:
-    """The folders in a folder, by the names that a page can show; whether each may hang though that one doesn't, as a link may, or
-    a drive that is mounted there. None of them is asked."""
+    """The folders in a folder, by the names that a page can show; whether each may hang though that one doesn't, as a link
+    or a drive that is mounted there may. None of them is asked."""
     try:
         with os.scandir(parent) as found:
             links = {one.name: one.is_symlink() for one in found if one.is_symlink() or one.is_dir(follow_symlinks=False)}
