@@ -181,12 +181,21 @@ def figures_of_abandoned(verdict: Verdict, everything: list[Tap]) -> None:
                         "of which give back": sum(line.startswith(("MARK ", "PENALTY ")) for line in lines)}
 
 
-def judge_lines(verdict: Verdict, devices: dict[str, list[Tap]], entries: list[str], kinds: tuple[str, ...] = ()) -> None:
+def may_have_gone(tap: Tap, removals: list[Removal]) -> bool:
+    """Whether a tap of a boat who isn't entered any more may have been taken by a sending that had no answer, and its line have
+    gone with her."""
+    return tap.status == 422 and any(tap.line.split()[2:3] == [one.sail] and tap.sent - LATE <= one.at <= tap.ended + LATE
+                                     for one in removals)
+
+
+def judge_lines(verdict: Verdict, devices: dict[str, list[Tap]], entries: list[str], removals: list[Removal],
+                kinds: tuple[str, ...] = ()) -> None:
     """Whether a journal has each line as often as it has to: only lines of these kinds, if there are some."""
     expected = Expected()
     for who, taps in devices.items():
         for tap in taps:
             count(expected, who, tap)
+        expected.perhaps.update(f"{role_of(who)} {tap.line}" for tap in taps if may_have_gone(tap, removals))
     has = collections.Counter(plain(entry) for entry in entries)
     lost = doubled = 0
     undone = {role: expected.perhaps[f"{role} UNDO"] for role in ("FINISH", "SCORER", "JURY")}
@@ -409,10 +418,10 @@ def judge_class(name: str, top: str, generations: list[Generation], east: int) -
     figures_of_abandoned(verdict, everything)
     judge_entries(verdict, devices, generations)
     if name == "cup":
-        judge_lines(verdict, devices, [entry for entry in whole if not is_listed(entry)])
+        judge_lines(verdict, devices, [entry for entry in whole if not is_listed(entry)], removals)
         judge_places(verdict, devices, folder)
     else:
-        judge_lines(verdict, devices, [entry for entry in whole if not is_listed(entry)],
+        judge_lines(verdict, devices, [entry for entry in whole if not is_listed(entry)], removals,
                     ("FINISH PENALTY", "JURY PENALTY", "SCORER ENTER", "SCORER SCORE", "SCORER UNSCORE"))
         judge_sheets(verdict, devices, removals, folder, east, entries)
     return verdict

@@ -10,12 +10,15 @@ import threading
 import time
 import unittest
 from typing import Any
+from unittest import mock
 
 import helpers
 from hanging_folder import Dead
+from raceoffice import side_by_side, system
 from raceoffice.series.folder import Folder
 from raceoffice.series.kept_places import history_of
 from raceoffice.side_by_side import PATIENCE
+from raceoffice.web import series_beside
 from web_devices import Device, Web, new_id
 
 FLEET = "Sail,Boat\nGBR 33,Fulmar\nNED 80,Sterna\n"
@@ -77,6 +80,24 @@ class Window(Beside):
         done = subprocess.run([*helpers.COMMAND, "check", "cup"], cwd=self.here, encoding="utf-8", stdout=subprocess.PIPE,
                               stderr=subprocess.STDOUT, timeout=SOON)
         return done.stdout
+
+
+class ManyFolders(helpers.Series):
+    def test_threads(self) -> None:
+        """A folder of a computer has thousands of others: they are asked for series in one thread. A link has a thread of its
+        own, and so has a drive: it may hang."""
+        for name, state in (("dart", "final"), ("ketch", "provisional")):
+            self.make(name, FLEET, title=name.capitalize(), state=state)
+        for number in range(40):
+            os.mkdir(os.path.join(self.here, f"folder-{number}"))
+        os.symlink(os.path.join(self.here, "dart"), os.path.join(self.here, "link"))
+        reading, drive = series_beside.Reading(), system.Mount(0, ["rw"])
+        with mock.patch.object(system, "mounts", return_value={os.path.join(os.path.realpath(self.here), "ketch"): drive}), \
+                mock.patch.object(side_by_side, "answer_of", side_effect=side_by_side.answer_of) as asked:
+            found = series_beside.series_beside(self.here, ["cup"], reading)
+        self.assertEqual([(one["name"], one["title"], one["state"]) for one in found],
+                         [("dart", "Dart", "final"), ("ketch", "Ketch", "provisional"), ("link", "Dart", "final")])
+        self.assertEqual(asked.call_count, 3)
 
 
 class Served(Beside):

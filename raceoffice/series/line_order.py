@@ -46,19 +46,23 @@ class LineOrder:
     # After how many groups no boat of the order comes any more; None after a line, until somebody needs it.
     end: int | None = field(default=None, compare=False)
 
-    @classmethod
-    def read(cls, number: int, journal: Sequence[str], kept: Sequence[Kept], meant: Mapping[int, Meant]) -> LineOrder:
-        """Follows the lines of a race. `meant` has what is noted of some entries, by their numbers."""
-        order, due = cls(), dict[int, list[Kept]]()
+    def copy(self) -> LineOrder:
+        """The same order, which may be changed."""
+        ahead = {mark: set(sails) for mark, sails in self.ahead.items()}
+        return LineOrder([list(group) for group in self.groups], set(self.struck), ahead, self.end)
+
+    def go_on(self, number: int, journal: Sequence[str], kept: Sequence[Kept], meant: Mapping[int, Meant], since: int) -> None:
+        """Follows the lines of a race that come after the first `since` ones of a journal, and these places. `meant` has what is
+        noted of some entries, by their numbers."""
+        due, race = dict[int, list[Kept]](), f" {number} "
         for place in kept:
             due.setdefault(min(place.entries, len(journal)), []).append(place)
-        race = f" {number} "
-        for at, line in enumerate(["", *journal]):
+        for at in range(since, len(journal) + 1):
+            line = journal[at - 1] if at > since else ""
             if race in line and line.startswith(ORDERING):
-                order.follow_line(number, line, meant.get(at, Meant()))
+                self.follow_line(number, line, meant.get(at, Meant()))
             for place in due.get(at, ()):
-                order.keep(place)
-        return order
+                self.keep(place)
 
     # What is there
 
@@ -227,8 +231,10 @@ class LineOrder:
     def take_away(self, sail: str) -> None:
         """Takes a boat from where she was when she was struck."""
         self.struck.discard(sail)
-        left = [[name for name in group if name != sail] for group in self.groups]
-        self.groups = [group for group in left if group]
+        with contextlib.suppress(ValueError):
+            at = self.at(sail)
+            self.groups[at].remove(sail)
+            self.groups[at:at + 1] = filter(None, [self.groups[at]])
 
     def note_ahead(self, sail: str) -> None:
         """Notes of which places a boat is ahead now."""
@@ -239,3 +245,37 @@ class LineOrder:
                     self.ahead[mark].add(sail)
                 else:
                     self.ahead[mark].discard(sail)
+
+
+@dataclass(frozen=True)
+class Followed:
+    """An order, which nobody changes, and what was followed of a race for it: the journal, how places are kept, and what is noted
+    of entries. Journal and notes grow all the time, and each tap asks for the order: so it goes on from an earlier one."""
+    journal: list[str] = field(default_factory=list)
+    kept: list[Kept] = field(default_factory=list)
+    meant: Mapping[int, Meant] = field(default_factory=dict)
+    order: LineOrder = field(default_factory=LineOrder)
+
+    def is_beginning_of(self, journal: list[str], kept: list[Kept], meant: Mapping[int, Meant]) -> bool:
+        """Whether all that was followed comes first in what is to be followed now."""
+        entries, places = len(self.journal), len(self.kept)
+        is_same = self.journal == journal[:entries] and self.kept == kept[:places] and self.meant == of_first(meant, entries)
+        # A place that was kept when the journal had more entries than it has now comes elsewhere once it has those again.
+        is_before = all(one.entries <= entries for one in self.kept)
+        return is_same and is_before and all(one.entries >= entries for one in kept[places:])
+
+
+def followed(number: int, journal: Sequence[str], kept: Sequence[Kept], meant: Mapping[int, Meant],
+             earlier: Sequence[Followed] = ()) -> Followed:
+    """Follows the lines of a race, from where it was followed `earlier` if that comes first. `meant` has what is noted of some
+    entries, by their numbers."""
+    journal, kept = list(journal), list(kept)
+    before = next((one for one in earlier if one.is_beginning_of(journal, kept, meant)), Followed())
+    order = before.order.copy()
+    order.go_on(number, journal, kept[len(before.kept):], meant, len(before.journal))
+    return Followed(journal, kept, of_first(meant, len(journal)), order)
+
+
+def of_first(meant: Mapping[int, Meant], entries: int) -> Mapping[int, Meant]:
+    """What is noted of the first entries. Line 0 is none."""
+    return {at: one for at, one in meant.items() if 0 < at <= entries}

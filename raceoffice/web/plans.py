@@ -56,7 +56,7 @@ def asked_of_places(session: TapSession, lines: Sequence[Line]) -> Iterator[Ques
             continue
         race = session.facts.race(number).number
         if race not in orders:
-            orders[race] = history.order(race)
+            orders[race] = history.order(race).copy()
         order, marks = orders[race], history.waiting.marks(race)
         if later:
             history.waiting.one(race, later)

@@ -19,7 +19,6 @@ from raceoffice.remarks import remark
 from raceoffice.results.http_answers import Text, address_of
 from raceoffice.series.entry_list import plain
 from raceoffice.series.folder import Folder
-from raceoffice.series.settings import Settings
 from raceoffice.session.confirm import questions
 from raceoffice.session.dialogue import Question
 from raceoffice.session.parse import COMMANDS, FIRST, MAY, race_number
@@ -93,7 +92,7 @@ class Routes:
         # Who makes one: others who ask for it meanwhile get the same.
         self.making: dict[tuple[str, bool], threading.Lock] = collections.defaultdict(threading.Lock)
         # What all classes are asked, of which one may hang
-        self.offices, self.settings = SideBySide[Values](), SideBySide[Settings | None]()
+        self.offices, self.settings = SideBySide[Values](), SideBySide[series_beside.Read]()
 
     def sender(self, request: Request) -> Device | None:
         """The device that a request comes from, if it is known and asks for an address of its role."""
@@ -320,7 +319,7 @@ class Routes:
     def answering(self) -> list[Class]:
         """The classes whose folders answer; of any other its office says that its folder doesn't."""
         classes = {one.room.folder.path: one for one in self.office.classes.values()}
-        found = self.settings.answers({path: functools.partial(series_beside.settings_in, path) for path in classes})
+        found = self.settings.answers({path: functools.partial(series_beside.settings_in, [path]) for path in classes})
         for path, one in classes.items():
             if path not in found:
                 one.office.say(remark("folder-silent", path=path))
