@@ -20,11 +20,17 @@ function startShown(name, words) {
   return number ? {was: state(name).races[number]?.sheet?.start ?? ""} : {};
 }
 
-// Sends a line, and says what the office said of it. One that was chosen in a window goes with the entries that were `seen` as
-// that was opened: the office asks about what others have recorded since.
+// What came of a line: without what was shown before it was asked about, unless that is all
+function outcomeOf(said) {
+  const after = said.filter(one => one.kind !== "shown");
+  return saidWords(after.length ? after : said);
+}
+
+// Sends a line, and says what came of it. One that was chosen in a window goes with the entries that were `seen` as that was
+// opened: the office asks about what others have recorded since.
 export async function line(name, words, more) {
   const done = await send(name, words, {...startShown(name, words), ...more});
-  if (done && done.outcome !== "refused") say(saidWords(done.said).slice(0, 2).join("\n"));
+  if (done && done.outcome !== "refused") say(outcomeOf(done.said).slice(0, 2).join("\n"));
   return done;
 }
 
