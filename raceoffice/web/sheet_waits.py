@@ -27,16 +27,16 @@ COURSES = {"py": "laps", "tod": "distance"}
 
 def with_reason(sheet: Values, faults: list[Remark], alone: Mapping[str, Remark], system: str) -> Values:
     rows: Mapping[str, Any] = sheet["rows"] if isinstance(sheet["rows"], dict) else {}
-    lacks: Mapping[str, str] = sheet["lacks"] if isinstance(sheet["lacks"], dict) else {}
+    lacks: Mapping[str, list[str]] = sheet["lacks"] if isinstance(sheet["lacks"], dict) else {}
     shown = {sail: row | {"why": remarks_of(why_waiting(sail, row, alone))} for sail, row in rows.items()}
     kept = {key: value for key, value in sheet.items() if key != "lacks"}
-    return kept | {"why": sheet["wrong"] or remarks_of([*faults, *of_course(lacks, system)][:1]), "rows": shown}
+    course = of_course([sail for sail in lacks.get(COURSES.get(system, ""), []) if sail not in alone], system)
+    return kept | {"why": sheet["wrong"] or remarks_of([*faults, *course][:1]), "rows": shown}
 
 
-def of_course(lacks: Mapping[str, str], system: str) -> list[Remark]:
-    """What is said of a boat without the laps or the distance by which the times of a race are worked out: all wait for it."""
-    sail = lacks.get(COURSES.get(system, ""), "")
-    return [remark("laps-missing" if system == "py" else "distance-missing", sail=sail)] if sail else []
+def of_course(sails: list[str], system: str) -> list[Remark]:
+    """What is said of boats without the laps or the distance by which the times of a race are worked out: all wait for the first."""
+    return [remark("laps-missing" if system == "py" else "distance-missing", sail=sail) for sail in sails[:1]]
 
 
 def why_waiting(sail: str, row: Mapping[str, Any], alone: Mapping[str, Remark]) -> list[Remark]:

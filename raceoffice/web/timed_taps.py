@@ -310,12 +310,12 @@ def sheet_shown(path: str, race: int, is_overnight: bool) -> Values:
             "rows": {row.sail: row_shown(row, is_overnight, *starts[:1]) for row in rows if row.is_timed or row.code}}
 
 
-def lacks(rows: Sequence[Entry]) -> dict[str, str]:
-    """The first boat with a time that has no laps, if others have some, and the first that has no distance; each empty if there
-    is none. What a boat above has counts as her own."""
+def lacks(rows: Sequence[Entry]) -> dict[str, list[str]]:
+    """The boats with a time that have no laps, if others have some, and those that have no distance. What a boat above has counts
+    as her own."""
     timed = [row for row in rows if row.is_timed]
-    without = {key: next((row.sail for row in timed if not row.cells[key]), "") for key in ("laps", "distance")}
-    return without | ({} if any(row.cells["laps"] for row in timed) else {"laps": ""})
+    without = {key: [row.sail for row in timed if not row.cells[key]] for key in ("laps", "distance")}
+    return without if len(without["laps"]) < len(timed) else without | {"laps": []}
 
 
 def races_begun(folder: Folder) -> list[int]:

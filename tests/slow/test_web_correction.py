@@ -189,6 +189,18 @@ class Correction(WebTrial):
         self.shown(bea, second, third, first, SAILS[4])
         self.need_no_faults()
 
+    def test_what_came_of_it(self) -> None:
+        """Once a question is answered, it is said what came of the line, and not again what was shown before it."""
+        bea = self.device("scorer", "Bea")
+        self.shown(bea, *SAILS[:3])
+        for button, words in (("#score", "race 1 counts"), ("#unscore", "count any more"), ("#abandon", "Race 1 is taken away: 3 lines")):
+            bea.click(button)
+            bea.choose("yes")
+            bea.until(f"document.querySelector('#said').textContent.toLowerCase().includes({words.lower()!r})")
+            for shown in ("3 finished", "To take race 1 away", "STRIKE 1"):
+                self.assertNotIn(shown, bea.text("#said"))
+        self.need_no_faults()
+
     def test_finish_of_a_boat_meanwhile(self) -> None:
         """While a window asks which code a boat has, another device taps her finish: a DNF is asked about, on a phone and on the
         scorer's page, and nothing is sent after a No; OCS isn't."""
