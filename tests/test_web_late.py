@@ -336,7 +336,7 @@ class Late(OnWater):
     # A boat that the scorer puts after all others
 
     def after(self, line: str, behind: str, at: int) -> Any:
-        """Who is asked about before a boat goes to the end in a window; None if she goes there."""
+        """The others that are asked about before a boat goes to the end in a window; None if she goes there."""
         came = self.do("SCORER", "Cy", line, at=at, behind=behind, seen=SEEN)
         if came == "taken":
             return None

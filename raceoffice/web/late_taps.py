@@ -42,8 +42,8 @@ def asked_of_new_places(session: TapSession, line: str, order: Race) -> Iterator
 
 def asked_of_last(session: TapSession, line: str, order: Race, passed: Collection[str] = ()) -> Iterator[Question]:
     """What is asked of a boat that somebody puts after all others in a window: whether she is after those, too, whom others have
-    recorded since that was opened. The tap has the boat that was the last one then. `order` has the places that are kept; of
-    those that she has `passed` it is asked elsewhere."""
+    recorded since that was opened. The tap has the boat that was the last one then. `order` has the places that are kept. It is
+    asked elsewhere about those that she has `passed`."""
     command, *_, sail = line.split()
     behind = session.tap.behind
     if command != "FINISH" or behind is None or order.is_in_order(sail):
