@@ -189,6 +189,34 @@ class Correction(WebTrial):
         self.shown(bea, second, third, first, SAILS[4])
         self.need_no_faults()
 
+    def test_place_kept_meanwhile(self) -> None:
+        """While a window asks who was just ahead of a boat, or who she was just ahead of, a place is kept there, and the window stays
+        open for some seconds: it is asked on which side of the place the boat was."""
+        ben, bea = web_devices.Device(self.port, "finish").come(self.links["finish"], "Ben"), self.device("scorer", "Bea")
+        first, second, third, fourth = SAILS[:4]
+        for race, sail, pointed, choices, order in (
+                (1, fourth, fourth, ("into",), (first, "?", fourth, second, third)),
+                (2, fourth, second, ("ahead",), (first, "?", fourth, second, third)),
+                (3, third, third, ("move", "ahead"), (first, "?", third, second))):
+            for one in (first, second, third) if race > 1 else ():
+                ben.tap(f"FINISH {race} {one}")
+            bea.click(f".races [data-key='{race}']")
+            self.shown(bea, first, second, third)
+            bea.click(f"{ROW.format(pointed)} th button, .missing [data-sail={pointed}]")
+            for choice in choices:
+                bea.choose(choice)
+            bea.until("!!document.querySelector('dialog[open] [data-sail]')")
+            ben.tap(f"? {race}", at=ben.state()["races"][str(race)]["at"][first], behind=first, by_clock=True)
+            self.shown(bea, first, "?", second, third)
+            # A place that was kept within a second is asked about, however long a window is open.
+            bea.another_second()
+            bea.click(f"dialog [data-sail={sail if choices == ('ahead',) else second}]")
+            bea.until("document.querySelector('dialog[open]')?.textContent.includes("
+                      f"'?1 has been kept just ahead of {spaced(second)} since. Did {spaced(sail)} finish after ?1?')")
+            bea.choose("yes")
+            self.shown(bea, *order)
+        self.need_no_faults()
+
     def test_what_came_of_it(self) -> None:
         """Once a question is answered, it is said what came of the line, and not again what was shown before it."""
         bea = self.device("scorer", "Bea")

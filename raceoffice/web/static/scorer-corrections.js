@@ -67,8 +67,8 @@ export async function correct(name, number, sail) {
   else if (done === "last") line(name, `FINISH ${number} ${sail}`, opened);
   else if (done === "time") typeTime(name, race, number, sail, seen);
   else if (done === "code") askCode(name, number, sail, seen);
-  else if (done === "ahead" || done === "level") insertAt(name, race, number, sail, done);
-  else if (done === "into") putInto(name, race, number, sail);
+  else if (done === "ahead" || done === "level") insertAt(name, race, number, sail, done, opened);
+  else if (done === "into") putInto(name, race, number, sail, opened);
   else if (done === "move") moveTo(name, race, number, sail, opened);
   else if (done === "swap") swapWith(name, race, number, sail);
 }
@@ -85,17 +85,17 @@ function typeTime(name, race, number, sail, seen) {
   return correctByHand(name, number, {sail, finish, elapsed: finish ? "" : elapsed ?? "", code}, seen);
 }
 
-async function insertAt(name, race, number, sail, how) {
+async function insertAt(name, race, number, sail, how, {seen, at}) {
   const title = text(how === "ahead" ? "scorer.justAheadOf" : "scorer.levelWith", {sail: spaced(sail)});
   const other = await findBoat(name, title, missingFrom(name, race));
-  if (other) line(name, `${how === "ahead" ? "BEFORE" : "TIE"} ${number} ${other} ${sail}`);
+  if (other) line(name, `${how === "ahead" ? "BEFORE" : "TIE"} ${number} ${other} ${sail}`, {seen, at});
 }
 
 const finishersBut = (race, sail) => race.order.flat().filter(other => other !== sail);
 
-async function putInto(name, race, number, sail) {
+async function putInto(name, race, number, sail, {seen, at}) {
   const other = await findBoat(name, text("scorer.aheadOfWhom", {sail: spaced(sail)}), finishersBut(race, sail));
-  if (other) line(name, `BEFORE ${number} ${sail} ${other}`);
+  if (other) line(name, `BEFORE ${number} ${sail} ${other}`, {seen, at});
 }
 
 async function moveTo(name, race, number, sail, {behind, at}) {
@@ -104,8 +104,8 @@ async function moveTo(name, race, number, sail, {behind, at}) {
   if (!how) return;
   const other = how === "last" ? "" : await findBoat(name, text(how === "ahead" ? "scorer.aheadOfWhom" : "scorer.levelWithWhom", {sail: spaced(sail)}),
     finishersBut(race, sail));
-  if (how === "last") lines(name, linesOfMove(number, sail, ""), {more: {behind, at}});
-  else if (other) lines(name, how === "ahead" ? linesOfMove(number, sail, other) : linesOfLevel(number, sail, other));
+  if (how === "last" || other)
+    lines(name, how === "level" ? linesOfLevel(number, sail, other) : linesOfMove(number, sail, other), {more: {behind, at}});
 }
 
 async function swapWith(name, race, number, sail) {
