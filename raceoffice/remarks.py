@@ -412,6 +412,8 @@ ENGLISH: dict[str, str | tuple[str, str] | tuple[str, str, str]] = {
     "timing-9": "{sail} has no rating",
     "rating-odd": "{sail}: {written} isn't a rating of the system",
     "start-missing": "her start isn't recorded, or is after her finish",
+    "laps-missing": "{sail} has no laps: the times of this race wait until they are put in on the page \"Times\"",
+    "distance-missing": "{sail} has no distance: the times of this race wait until it is put in on the page \"Times\"",
     "sheet-fault": "the sheet waits: {why}",
     "timing-10": "a time can't be read",
     "timing-11": "neither an elapsed time, nor a start and a finish",

@@ -237,11 +237,11 @@ class Late(OnWater):
                 self.correct([line], [])
             self.assertEqual(why.exception.status, 400, line)
 
-    def correct(self, lines: list[str], agreed: list[Any], at: int = 0) -> str:
+    def correct(self, lines: list[str], agreed: list[Any], at: int = 0, behind: str | None = None) -> str:
         """What came of a correction: its outcome, or the kind of what is asked, before which nothing is noted."""
         before = len(self.room.facts.sheet.journal), dict(self.room.register.decisions)
         try:
-            return str(correct(self.room, {"id": new_id(), "at": at, "agreed": agreed, "lines": lines}, "Cy")["outcome"])
+            return str(correct(self.room, {"id": new_id(), "at": at, "agreed": agreed, "lines": lines, "behind": behind}, "Cy")["outcome"])
         except Asked as asked:
             self.assertEqual((len(self.room.facts.sheet.journal), self.room.register.decisions), before)
             agreed.append(sent_back(asked.question))
@@ -311,6 +311,74 @@ class Late(OnWater):
         self.assertEqual(self.do("FINISH", "Ann", "MARK 1 GBR7 DNF", seen=seen), "other-since")
         self.assertEqual(self.values, {"line": "MARK 1 GBR7 DNF", "other": "FINISH 1 GBR7"})
         self.assertEqual(self.do("FINISH", "Ann", "MARK 1 GBR7 DNF", seen=seen, agreed=self.agreed), "taken")
+
+    def test_finished_meanwhile(self) -> None:
+        """A code of boats that don't finish is asked about if another device has seen its boat finish since; not if that was
+        struck, nor if it is the device's own finish, nor a code that a finisher may have."""
+        self.do("FINISH", "Ann", "FINISH 1 FRA9", behind=None)
+        seen = len(self.room.facts.sheet.journal)
+        for line in ("FINISH 1 GBR7", "TIE 1 NED12 GBR7", "BEFORE 1 GBR33 FRA9", "FINISH 1 IRL5", "STRIKE 1 IRL5"):
+            self.assertEqual(self.do("FINISH", "Bob", line, behind=None), "taken")
+        held = len(self.room.facts.sheet.journal)
+        for sail, other, codes in (("GBR7", "FINISH 1 GBR7", ("DNF", "DNS", "RET", "DNC")), ("NED12", "TIE 1 NED12 GBR7", ("DNF",)),
+                                   ("GBR33", "BEFORE 1 GBR33 FRA9", ("DNF",))):
+            for code in codes:
+                for role, name in (("FINISH", "Ann"), ("SCORER", "Cy")):
+                    if (role, code) != ("FINISH", "DNC"):
+                        self.assertEqual(self.do(role, name, f"MARK 1 {sail} {code}", seen=seen), "other-since", (sail, code))
+                        self.assertEqual(self.values, {"line": f"MARK 1 {sail} {code}", "other": other})
+        self.assertEqual(len(self.room.facts.sheet.journal), held)
+        self.assertEqual(self.do("FINISH", "Ann", "MARK 1 GBR33 DNF", seen=seen, agreed=self.agreed), "taken")
+        for name, line in (("Ann", "MARK 1 IRL5 DNS"), ("Ann", "MARK 1 FRA9 RET"), ("Ann", "MARK 1 GBR7 OCS"), ("Bob", "MARK 1 NED12 DNF")):
+            self.assertEqual(self.do("FINISH", name, line, seen=seen), "taken", line)
+        self.assertEqual(self.do("FINISH", "Ann", "MARK 1 GBR33 RET", seen=held), "taken")
+
+    # A boat that the scorer puts after all others
+
+    def after(self, line: str, behind: str, at: int) -> Any:
+        """The others that are asked about before a boat goes to the end in a window; None if she goes there."""
+        came = self.do("SCORER", "Cy", line, at=at, behind=behind, seen=SEEN)
+        if came == "taken":
+            return None
+        self.assertEqual(came, "after-since")
+        return self.values["others"]
+
+    def test_others_finished_meanwhile(self) -> None:
+        """While a window asks who finished after all others, these finish, or places are kept: that is asked. A place that was
+        there before isn't, nor whoever is ahead of the boat that was the last one."""
+        before = int(time.time() * 1000) - 60_000
+        for sail in ("GBR7", "FRA9", "IRL5", "NED12"):
+            self.do("FINISH", "Ann", f"FINISH 1 {sail}", at=before, behind=None)
+        self.do("FINISH", "Ann", "? 1", at=before, behind=None)
+        later, held = int(time.time() * 1000) + 60_000, len(self.room.facts.sheet.journal)
+        self.assertEqual(self.seen(1), [["GBR7"], ["FRA9"], ["IRL5"], ["NED12"], ["?1"]])
+        for behind, opened, others in (("FRA9", before, ["IRL5", "NED12", "?1"]), ("NED12", before, ["?1"]), ("FRA9", later, ["IRL5", "NED12"]),
+                                       ("", later, ["GBR7", "FRA9", "IRL5", "NED12"]), ("DEN61", later, [])):
+            with self.subTest(behind=behind):
+                self.assertEqual(self.after("FINISH 1 GBR33", behind, opened), others)
+        self.assertEqual(len(self.room.facts.sheet.journal), held)
+        self.assertIsNone(self.after("FINISH 1 GBR33", "NED12", later))
+        self.assertEqual(self.seen(1), [["GBR7"], ["FRA9"], ["IRL5"], ["NED12"], ["?1"], ["GBR33"]])
+
+    def test_moved_after_a_place(self) -> None:
+        """Of a place that a boat was ahead of it is asked once whether she is after it."""
+        now, agreed = int(time.time() * 1000), list[Any]()
+        for line in ("FINISH 1 GBR7", "FINISH 1 FRA9", "FINISH 1 NED12", "? 1"):
+            self.do("FINISH", "Ann", line, at=now, behind=None)
+        lines = ["STRIKE 1 GBR7", "FINISH 1 GBR7"]
+        self.assertEqual([self.correct(lines, agreed, now - 60_000, "FRA9") for _ in range(3)], ["finished-after", "after-since", "taken"])
+        self.assertEqual(agreed[1]["values"], {"race": 1, "sail": "GBR7", "others": ["NED12"]})
+
+    def test_after_those_too(self) -> None:
+        """A yes puts the boat after them, and is about just these."""
+        now, agreed = int(time.time() * 1000), list[Any]()
+        for sail in ("GBR7", "FRA9", "NED12"):
+            self.do("FINISH", "Ann", f"FINISH 1 {sail}", at=now - 90_000, behind=None)
+        lines = ["STRIKE 1 GBR7", "FINISH 1 GBR7"]
+        self.assertEqual(self.correct(lines, agreed, now, "FRA9"), "after-since")
+        self.do("FINISH", "Ann", "FINISH 1 IRL5", at=now, behind=None)
+        self.assertEqual([self.correct(lines, agreed, now, "FRA9") for _ in range(2)], ["after-since", "taken"])
+        self.assertEqual(self.seen(1), [["FRA9"], ["NED12"], ["IRL5"], ["GBR7"]])
 
     def test_given_meanwhile(self) -> None:
         """A code that takes the place of one that another device has given meanwhile is asked about, and so is what clears

@@ -42,8 +42,8 @@ MADE = {
     "trouble.": ["401", "403", "429", "devices-full"],
 }
 # The questions with words of their own for some values, and what comes before any question about a race that counts.
-VARIANTS = ["ask.announce.amended", "ask.announce.provisional", "ask.correction.amended", "ask.correction.final", "ask.counts",
-            "ask.declared.amended",
+VARIANTS = ["ask.after-since.changed", "ask.announce.amended", "ask.announce.provisional", "ask.correction.amended",
+            "ask.correction.final", "ask.counts", "ask.declared.amended",
             "ask.take-over.since", "ask.score-penalised.a53", "ask.redress-unplaced.a53", "ask.abandon.places", "ask.new-rules.reopen",
             "ask.others-recorded.ahead", "ask.others-recorded.changed", "ask.others-recorded.changed.ahead",
             "ask.others-recorded.untimed", "ask.others-recorded.ahead.untimed"]

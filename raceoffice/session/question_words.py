@@ -221,6 +221,15 @@ def of_place_ahead(words: Words) -> str:
     return f"{mark} has been kept just ahead of {words.boat('ahead')} since. Did {words.boat()} finish after {mark}?"
 
 
+def of_later(words: Words) -> str:
+    """Others were recorded after all while a window asked who finished after all."""
+    others, sail = words.boats("others"), words.boat()
+    if not others:
+        return f"The order has been changed meanwhile. Did {sail} finish after all others?"
+    were, them = ("was", "her") if len(others) == 1 else ("were", "them")
+    return f"Meanwhile {joined(others)} {were} recorded. Did {sail} finish after {them}, too?"
+
+
 def of_others(words: Words) -> str:
     """Others were recorded after a finisher was seen, and before she was."""
     others, sail = words.boats("others"), words.boat()
@@ -280,7 +289,7 @@ WORDS: dict[str, Callable[[Words], str]] = {
     # Only pages ask these.
     "sent-already": of_same_line, "others-recorded": of_others, "tapped-too": of_tapped_too,
     "start-since": of_start, "start-abandoned": of_old_start, "abandoned-since": of_abandoned,
-    "other-since": of_other_line, "place-ahead": of_place_ahead, "score-unsent": of_unsent,
+    "other-since": of_other_line, "place-ahead": of_place_ahead, "after-since": of_later, "score-unsent": of_unsent,
     "abandon-unsent": of_kept_by_devices,
     "another-series": of_another_series,
     # Before an office is opened.

@@ -1,15 +1,16 @@
-"""What is asked of a tap that comes some time after it was made: meanwhile its race was abandoned, or a place was kept where it
-puts a boat."""
+"""What is asked of a tap that comes some time after it was made: meanwhile its race was abandoned, a place was kept where it
+puts a boat, or others finished after whom it puts her."""
 from __future__ import annotations
 
-from collections.abc import Iterator
+from collections.abc import Collection, Iterator
 
 from raceoffice.program.journal import Race
 from raceoffice.series.abandoned import last_abandoned
+from raceoffice.series.line_order import is_mark
 from raceoffice.session.dialogue import Question
 from raceoffice.session.parse import race_number
 from raceoffice.session.question_words import question
-from raceoffice.web.finish_order import CLOSE, places_just_ahead
+from raceoffice.web.finish_order import CLOSE, groups_after, places_just_ahead
 from raceoffice.web.tap_session import TapSession
 
 
@@ -34,8 +35,27 @@ def asked_of_new_places(session: TapSession, line: str, order: Race) -> Iterator
     _, _, sail, other = words
     if not (marks := places_just_ahead(order, other)):
         return
-    kept, own = session.history.moments(order.number), session.register.places_by(session.name, order.number)
     for mark in marks:
-        # It is known to the second when a place was kept.
-        if mark not in own and kept.get(mark, 0) + CLOSE > session.tap.at:
+        if is_new_place(session, order.number, mark):
             yield question("place-ahead", session.facts.called, mark=mark, sail=sail, ahead=other)
+
+
+def asked_of_last(session: TapSession, line: str, order: Race, passed: Collection[str] = ()) -> Iterator[Question]:
+    """What is asked of a boat that somebody puts after all others in a window: whether she is after those, too, whom others have
+    recorded since that was opened. The tap has the boat that was the last one then. `order` has the places that are kept. It is
+    asked elsewhere about those that she has `passed`."""
+    command, *_, sail = line.split()
+    behind = session.tap.behind
+    if command != "FINISH" or behind is None or order.is_in_order(sail):
+        return
+    others = [name for group in groups_after(order, behind) for name in group]
+    if behind and not order.is_in_order(behind):
+        yield question("after-since", session.facts.called, race=order.number, sail=sail, others=())
+    elif others := [name for name in others if name not in passed and (not is_mark(name) or is_new_place(session, order.number, name))]:
+        yield question("after-since", session.facts.called, race=order.number, sail=sail, others=others)
+
+
+def is_new_place(session: TapSession, race: int, mark: str) -> bool:
+    """Whether another device has kept a place since a tap. It is known to the second when that was."""
+    is_own = mark in session.register.places_by(session.name, race)
+    return not is_own and session.history.moments(race).get(mark, 0) + CLOSE > session.tap.at

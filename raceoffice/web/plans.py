@@ -14,7 +14,7 @@ from raceoffice.session.dialogue import NOTE, Question
 from raceoffice.session.question_words import question
 from raceoffice.session.said_words import said
 from raceoffice.web.finish_order import without_place
-from raceoffice.web.late_taps import asked_if_abandoned, asked_of_new_places
+from raceoffice.web.late_taps import asked_if_abandoned, asked_of_last, asked_of_new_places
 from raceoffice.web.states import Values
 from raceoffice.web.tap_session import Asked, TapSession
 
@@ -60,12 +60,14 @@ def asked_of_places(session: TapSession, lines: Sequence[Line]) -> Iterator[Ques
         order, marks = orders[race], history.waiting.marks(race)
         if later:
             history.waiting.one(race, later)
-        for mark in order.ahead_before(text, later) if command in ("FINISH", "BEFORE") else []:
-            if mark in marks:
-                yield question("finished-after", session.facts.called, mark=mark, sail=sail)
-                order.ahead[mark].discard(sail)
+        passed = [mark for mark in order.ahead_before(text, later) if mark in marks] if command in ("FINISH", "BEFORE") else []
+        for mark in passed:
+            yield question("finished-after", session.facts.called, mark=mark, sail=sail)
+            order.ahead[mark].discard(sail)
         if not later:
-            yield from asked_of_new_places(session, text, Race(race, order.standing(marks)))
+            as_it_is = Race(race, order.standing(marks))
+            yield from asked_of_new_places(session, text, as_it_is)
+            yield from asked_of_last(session, text, as_it_is, passed)
         with contextlib.suppress(ValueError):
             order.follow([command, sail, *filter(None, other)], Meant("back", later) if later else Meant())
 

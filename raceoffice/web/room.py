@@ -31,10 +31,11 @@ from raceoffice.session.question_words import question
 from raceoffice.session.undo import later_entry
 from raceoffice.traces import guarded
 from raceoffice.web.finish_order import Moments, as_placed, later_in_order, line_in_order, without_place
-from raceoffice.web.late_taps import asked_if_abandoned, asked_of_new_places
+from raceoffice.web.late_taps import asked_if_abandoned, asked_of_last, asked_of_new_places
 from raceoffice.web.preview import NO_ENTRIES, decided_shown
 from raceoffice.web.race_start import clock_shown
-from raceoffice.web.row_changes import TAKING, entries_of_starts, given_since, is_timed_again, moments_noted, recorded_again
+from raceoffice.web.row_changes import (TAKING, entries_of_starts, finished_since, given_since, is_timed_again, moments_noted,
+                                       recorded_again)
 from raceoffice.web.sheet_waits import with_reasons
 from raceoffice.web.states import (Values, boats_of, moves_of, races_of, rules_of, said_of, standing_of, unlisted)
 from raceoffice.web.tap_session import TapSession
@@ -467,13 +468,21 @@ class Room:
                 self.ask_again(session, tap, line)
             return f"{line} {times}".rstrip()
         if line.startswith("FINISH "):
-            order = self.order_with_places(session, session.facts.race(line.split()[1]))
-            own = self.register.places_by(session.name, order.number)
-            line, session.later = line_in_order(session.facts, self.times_in(session, order), own, tap, line, order)
+            line, session.later = self.where_finished(session, tap, line)
         self.ask_again(session, tap, line)
         if line.startswith(("BEFORE ", "TIE ")) and not session.later:
             line, session.later = self.beside_new_places(session, line)
         return line
+
+    def where_finished(self, session: TapSession, tap: Tap, line: str) -> tuple[str, str]:
+        """The line that puts a finisher where she belongs, and the place that she is just ahead of, if she is of one."""
+        order = self.order_with_places(session, session.facts.race(line.split()[1]))
+        if session.role != "FINISH":
+            # The clock says when somebody wrote it, and not when she finished.
+            session.need_agreed(asked_of_last(session, line, order))
+            return line, ""
+        own = self.register.places_by(session.name, order.number)
+        return line_in_order(session.facts, self.times_in(session, order), own, tap, line, order)
 
     def beside_new_places(self, session: TapSession, line: str) -> tuple[str, str]:
         """The line of a boat that is put ahead of another, or level with her, and the place that she is just ahead of: she is
@@ -540,8 +549,8 @@ class Room:
 
     def ask_again(self, session: TapSession, tap: Tap, line: str) -> None:
         """Asks if the journal has this very line since the tap: somebody else may have sent it. So it is if somebody else has
-        struck its boat since, and recorded her again, or has given her what the line takes away: she isn't as the device showed
-        her."""
+        struck its boat since, and recorded her again, or has given her what the line takes away, or has seen her finish, and
+        the line says that she didn't: she isn't as the device showed her."""
         race, words = session.facts.race_of(line), line.split()
         if tap.undoes or not tap.seen:
             return
@@ -560,7 +569,8 @@ class Room:
         if later:
             session.is_agreed(question("sent-already", session.facts.called, line=line, entry=later[-1]))
         since = [commands[at - 1] for at in others]
-        if words[0] in TAKING and (other := recorded_again(session, line, since) or given_since(session, line, since)):
+        changed = (find(session, line, since) for find in (recorded_again, given_since, finished_since))
+        if words[0] in TAKING and (other := next(filter(None, changed), "")):
             session.is_agreed(question("other-since", session.facts.called, line=line, other=other))
 
 

@@ -20,6 +20,8 @@ from raceoffice.web.taps import Register, Sent, finisher_of, number_of
 OF_ROW = ("FINISH", "ELAPSED", "STRIKE", "MARK", "CLEAR")
 # Lines that take something away of a boat as a device shows her.
 TAKING = ("STRIKE", "MARK", "PENALTY", "CLEAR")
+# Codes of boats that don't finish, or not any more.
+NOT_FINISHED = ("DNC", "DNS", "DNF", "RET")
 Cells = dict[str, str]
 
 
@@ -93,10 +95,25 @@ def is_timed_again(lines: Sequence[str]) -> bool:
 def recorded_again(session: TapSession, line: str, journal: Sequence[str]) -> str:
     """The line by which somebody else has recorded the boat of a line again since its tap, having struck her; empty if
     nobody has. `journal` are the others' commands since: those of a sheet that was changed by hand are there alone."""
-    _, race, sail, *_ = line.split()
-    lines = [other for other in journal if other.split()[0] in (*ORDERING, "TIME") and other.split()[1:3] == [race, sail]]
-    taps = [one.line for one in others_of_row(session, line)] if session.folder.settings.handicap else []
+    taps, lines = recorded_since(session, line, journal)
     return last_after_strike(taps) or last_after_strike(lines)
+
+
+def finished_since(session: TapSession, line: str, journal: Sequence[str]) -> str:
+    """The line by which somebody else has recorded a boat as a finisher since a tap that gives her a code of boats that don't
+    finish; empty if nobody has. `journal` are the others' commands since."""
+    if not line.startswith("MARK ") or line.split()[-1] not in NOT_FINISHED:
+        return ""
+    lasts = [found[-1] for found in recorded_since(session, line, journal) if found]
+    return next((other for other in lasts if not other.startswith("STRIKE ")), "")
+
+
+def recorded_since(session: TapSession, line: str, journal: Sequence[str]) -> tuple[list[str], list[str]]:
+    """What others have recorded of the place of a boat since a tap for her: the taps for a sheet of times, and what the journal
+    has. `journal` are the others' commands since."""
+    _, race, sail, *_ = line.split()
+    taps = [one.line for one in others_of_row(session, line)] if session.folder.settings.handicap else []
+    return taps, [other for other in journal if other.split()[0] in (*ORDERING, "TIME") and other.split()[1:3] == [race, sail]]
 
 
 def given_since(session: TapSession, line: str, journal: Sequence[str]) -> str:

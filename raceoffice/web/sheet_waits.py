@@ -21,10 +21,22 @@ def with_reasons(folder: Folder, sheets: Mapping[int, Values]) -> dict[int, Valu
     return {race: with_reason(sheet, *of_ratings(folder, race)) for race, sheet in sheets.items()}
 
 
-def with_reason(sheet: Values, faults: list[Remark], alone: Mapping[str, Remark]) -> Values:
+# What times of a system go by besides the ratings.
+COURSES = {"py": "laps", "tod": "distance"}
+
+
+def with_reason(sheet: Values, faults: list[Remark], alone: Mapping[str, Remark], system: str) -> Values:
     rows: Mapping[str, Any] = sheet["rows"] if isinstance(sheet["rows"], dict) else {}
+    lacks: Mapping[str, list[str]] = sheet["lacks"] if isinstance(sheet["lacks"], dict) else {}
     shown = {sail: row | {"why": remarks_of(why_waiting(sail, row, alone))} for sail, row in rows.items()}
-    return sheet | {"why": sheet["wrong"] or remarks_of(faults[:1]), "rows": shown}
+    kept = {key: value for key, value in sheet.items() if key != "lacks"}
+    course = of_course([sail for sail in lacks.get(COURSES.get(system, ""), []) if sail not in alone], system)
+    return kept | {"why": sheet["wrong"] or remarks_of([*faults, *course][:1]), "rows": shown}
+
+
+def of_course(sails: list[str], system: str) -> list[Remark]:
+    """What is said of boats without the laps or the distance by which the times of a race are worked out: all wait for the first."""
+    return [remark("laps-missing" if system == "py" else "distance-missing", sail=sail) for sail in sails[:1]]
 
 
 def why_waiting(sail: str, row: Mapping[str, Any], alone: Mapping[str, Remark]) -> list[Remark]:
@@ -36,14 +48,14 @@ def why_waiting(sail: str, row: Mapping[str, Any], alone: Mapping[str, Remark]) 
     return [alone[sail]] if sail in alone else []
 
 
-# What is wrong with the ratings of a race: for all boats, and for those that have none.
-Wrong = tuple[list[Remark], dict[str, Remark]]
+# What is wrong with the ratings of a race, for all boats and for those that have none; and the system of the ratings.
+Wrong = tuple[list[Remark], dict[str, Remark], str]
 # What was found of each race of a folder, and of which files: pages ask for all races after each tap.
 FOUND: dict[tuple[str, int], tuple[object, Wrong]] = {}
 
 
 def of_ratings(folder: Folder, race: int) -> Wrong:
-    """What is wrong with the ratings of a race."""
+    """What is wrong with the ratings of a race, and their system."""
     files, key = (stamp_of(folder.entries), stamp_of(folder.file(SHEETS, RULES))), (folder.path, race)
     known = FOUND.get(key)
     if known and known[0] == files:
@@ -51,7 +63,7 @@ def of_ratings(folder: Folder, race: int) -> Wrong:
     try:
         found = ratings_now(folder, race)
     except Trouble as trouble:
-        return [remark("sheet-fault", why=trouble.said[0])], {}
+        return [remark("sheet-fault", why=trouble.said[0])], {}, ""
     FOUND[key] = (files, found)
     return found
 
@@ -60,6 +72,6 @@ def ratings_now(folder: Folder, race: int) -> Wrong:
     """The same by the files as they are now; a Trouble if one can't be read."""
     data, system = bytes_of(folder.entries), Rules.read(folder).system
     if wrong := problems(data, folder.entries):
-        return wrong[:1], {}
+        return wrong[:1], {}, system
     faults, alone = faults_in_race(data, name_of(folder.entries), race, system)
-    return faults, {plain(sail): why for sail, why in alone.items()}
+    return faults, {plain(sail): why for sail, why in alone.items()}, system

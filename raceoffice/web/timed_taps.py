@@ -294,7 +294,7 @@ def sheets_shown(folder: Folder) -> dict[int, Values]:
                 known = SHOWN[path] = (key, sheet_shown(path, race, race in nights))
             found[race] = known[1]
         except (NotThere, Trouble) as trouble:
-            found[race] = {"start": "", "wrong": remarks_of(trouble.said), "rows": {}}
+            found[race] = {"start": "", "wrong": remarks_of(trouble.said), "rows": {}, "lacks": {}}
     return found
 
 
@@ -306,8 +306,16 @@ def sheet_shown(path: str, race: int, is_overnight: bool) -> Values:
     """The sheet of a race as it is now. NotThere or a Trouble if it can't be read."""
     rows, faults = entries_of(bytes_of(path), sheet_name(race))
     starts = sorted({row.cells["start"] for row in rows if row.cells["start"]})
-    return {"start": starts[0] if len(starts) == 1 else "", "wrong": remarks_of(faults),
+    return {"start": starts[0] if len(starts) == 1 else "", "wrong": remarks_of(faults), "lacks": lacks(rows),
             "rows": {row.sail: row_shown(row, is_overnight, *starts[:1]) for row in rows if row.is_timed or row.code}}
+
+
+def lacks(rows: Sequence[Entry]) -> dict[str, list[str]]:
+    """The boats with a time that have no laps, if others have some, and those that have no distance. What a boat above has counts
+    as her own."""
+    timed = [row for row in rows if row.is_timed]
+    without = {key: [row.sail for row in timed if not row.cells[key]] for key in ("laps", "distance")}
+    return without if len(without["laps"]) < len(timed) else without | {"laps": []}
 
 
 def races_begun(folder: Folder) -> list[int]:

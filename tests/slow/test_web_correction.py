@@ -3,6 +3,7 @@ boat is where she was, or where she was put, or the page says what is left."""
 from __future__ import annotations
 
 import json
+import re
 import unittest
 
 import web_devices
@@ -14,6 +15,11 @@ ROW = ".order tr[data-sail={}]"
 ORDER = "[...document.querySelectorAll('.order tbody tr')].map(row => row.dataset.sail ?? '?').join(' ')"
 MOVE = ["STRIKE 1 NED12", "BEFORE 1 NED12 GBR101"]
 TAPS = ("cup", "office", "web.taps")
+
+
+def spaced(sail: str) -> str:
+    """A sail as pages show it."""
+    return re.sub(r"(?<=[A-Z])(?=\d)", " ", sail)
 
 
 class Correction(WebTrial):
@@ -131,6 +137,132 @@ class Correction(WebTrial):
                     one.choose(no)
             self.settle(ann)
             self.assertEqual((self.journal(), ben.state()["entries"]), (changed, now))
+        self.need_no_faults()
+
+    def test_others_finish_meanwhile(self) -> None:
+        """While a window asks who finished after all others, or where a boat did, another boat finishes: it is asked whether she is
+        after that one, too. Nothing is sent after a No."""
+        finish = web_devices.Device(self.port, "finish").come(self.links["finish"], "Ben")
+        bea, order, coming = self.device("scorer", "Bea"), SAILS[:3], iter(SAILS[3:])
+        for what, choices in (("move", ("move", "last")), ("add", ()), ("last", ("last",))):
+            for answer in ("", "yes"):
+                self.shown(bea, *order)
+                # Who is moved, and who is added
+                sail, other = order[0] if what == "move" else SAILS[-1 if what == "add" else -2], next(coming)
+                bea.click("#add" if what == "add" else f"{ROW.format(sail)} th button" if what == "move" else f".missing [data-sail={sail}]")
+                for choice in choices[:-1]:
+                    bea.choose(choice)
+                bea.until("!!document.querySelector('dialog[open]')")
+                finish.tap(f"FINISH 1 {other}")
+                order = [*order, other]
+                self.shown(bea, *order)
+                held = self.journal()
+                if what == "add":
+                    bea.click(f"dialog [data-sail={sail}]")
+                else:
+                    bea.choose(choices[-1])
+                bea.until("document.querySelector('dialog[open]')?.textContent.includes("
+                          f"'Meanwhile {spaced(other)} was recorded. Did {spaced(sail)} finish after her, too?')")
+                bea.choose(answer)
+                if answer:
+                    order = [*(one for one in order if one != sail), sail]
+                    self.shown(bea, *order)
+                    self.assertEqual(self.journal()[-1], f"SCORER FINISH 1 {sail}")
+                else:
+                    bea.until("!document.querySelector('dialog[open]')")
+                    self.assertEqual(self.journal(), held)
+        self.need_no_faults()
+
+    def test_nobody_finishes_meanwhile(self) -> None:
+        """Nothing is asked of a boat that goes after all that the window showed."""
+        bea, (first, second, third) = self.device("scorer", "Bea"), SAILS[:3]
+        self.shown(bea, first, second, third)
+        for sail, order in ((first, (second, third, first)), (first, (second, third, first))):
+            bea.click(f"{ROW.format(sail)} th button")
+            bea.choose("move")
+            bea.choose("last")
+            bea.until("document.body.textContent.includes('2 lines sent')")
+            self.shown(bea, *order)
+            bea.run("document.querySelector('#said').textContent = ''")
+        bea.click("#add")
+        bea.click(f"dialog [data-sail={SAILS[4]}]")
+        self.shown(bea, second, third, first, SAILS[4])
+        self.need_no_faults()
+
+    def test_place_kept_meanwhile(self) -> None:
+        """While a window asks who was just ahead of a boat, or who she was just ahead of, a place is kept there, and the window stays
+        open for some seconds: it is asked on which side of the place the boat was."""
+        ben, bea = web_devices.Device(self.port, "finish").come(self.links["finish"], "Ben"), self.device("scorer", "Bea")
+        first, second, third, fourth = SAILS[:4]
+        for race, sail, pointed, choices, order in (
+                (1, fourth, fourth, ("into",), (first, "?", fourth, second, third)),
+                (2, fourth, second, ("ahead",), (first, "?", fourth, second, third)),
+                (3, third, third, ("move", "ahead"), (first, "?", third, second))):
+            for one in (first, second, third) if race > 1 else ():
+                ben.tap(f"FINISH {race} {one}")
+            bea.click(f".races [data-key='{race}']")
+            self.shown(bea, first, second, third)
+            bea.click(f"{ROW.format(pointed)} th button, .missing [data-sail={pointed}]")
+            for choice in choices:
+                bea.choose(choice)
+            bea.until("!!document.querySelector('dialog[open] [data-sail]')")
+            ben.tap(f"? {race}", at=ben.state()["races"][str(race)]["at"][first], behind=first, by_clock=True)
+            self.shown(bea, first, "?", second, third)
+            # A place that was kept within a second is asked about, however long a window is open.
+            bea.another_second()
+            bea.click(f"dialog [data-sail={sail if choices == ('ahead',) else second}]")
+            bea.until("document.querySelector('dialog[open]')?.textContent.includes("
+                      f"'?1 has been kept just ahead of {spaced(second)} since. Did {spaced(sail)} finish after ?1?')")
+            bea.choose("yes")
+            self.shown(bea, *order)
+        self.need_no_faults()
+
+    def test_what_came_of_it(self) -> None:
+        """Once a question is answered, it is said what came of the line, and not again what was shown before it."""
+        bea = self.device("scorer", "Bea")
+        self.shown(bea, *SAILS[:3])
+        for button, words in (("#score", "race 1 counts"), ("#unscore", "count any more"), ("#abandon", "Race 1 is taken away: 3 lines")):
+            bea.click(button)
+            bea.choose("yes")
+            bea.until(f"document.querySelector('#said').textContent.toLowerCase().includes({words.lower()!r})")
+            for shown in ("3 finished", "To take race 1 away", "STRIKE 1"):
+                self.assertNotIn(shown, bea.text("#said"))
+        self.need_no_faults()
+
+    def test_finish_of_a_boat_meanwhile(self) -> None:
+        """While a window asks which code a boat has, another device taps her finish: a DNF is asked about, on a phone and on the
+        scorer's page, and nothing is sent after a No; OCS isn't."""
+        ben = web_devices.Device(self.port, "finish").come(self.links["finish"], "Ben")
+        bea, ann, (one, two, three) = self.device("scorer", "Bea"), self.phone(), SAILS[3:6]
+        ann.click("#races .race")
+        ann.click("dialog [data-race='1']")
+        self.shown(bea, *SAILS[:3])
+
+        def open_both(sail: str) -> None:
+            ann.click("#code")
+            ann.tap(sail)
+            bea.click(f".missing [data-sail={sail}]")
+            bea.choose("code")
+            for device in (ann, bea):
+                device.until("!!document.querySelector('dialog[open] [data-value=DNF]')")
+        for sail, lines in ((one, [f"FINISH 1 {one}"]), (two, [f"TIE 1 {two} {one}"])):
+            open_both(sail)
+            for line in lines:
+                ben.tap(line)
+            held = self.journal()
+            for device, no in ((ann, "drop"), (bea, "")):
+                device.choose("DNF")
+                device.until("document.querySelector('dialog[open]')?.textContent.includes("
+                             f"'Somebody else has sent {lines[-1]} since. Send MARK 1 {sail} DNF all the same?')")
+                device.choose(no)
+                device.until("!document.querySelector('dialog[open]')")
+            self.settle(ann)
+            self.assertEqual(self.journal(), held)
+        open_both(three)
+        ben.tap(f"FINISH 1 {three}")
+        ann.choose("OCS")
+        self.settle(ann)
+        self.assertEqual(self.journal()[-1], f"FINISH MARK 1 {three} OCS")
         self.need_no_faults()
 
     def test_another_race_and_a_place(self) -> None:

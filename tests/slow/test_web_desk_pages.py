@@ -446,6 +446,35 @@ class TwoClasses(WebTrial):
             scorer.until(f"document.querySelector('.paper').textContent.startsWith('{paper}')")
         self.need_no_faults()
 
+    def test_ticks_of_what_is_shown(self) -> None:
+        """A boat isn't as on the paper any more once she has another place, another boat beside her or a code, nor in a race that was
+        abandoned and is sailed again; the others still are."""
+        desk = web_devices.Device(self.port, "scorer").come(self.links["scorer"], "Ada")
+        for sail in ("GBR33", "GBR7", "GBR101", "NED12"):
+            desk.tap(f"FINISH 1 {sail}")
+        scorer = self.device("scorer", "Bea’s laptop")
+        scorer.click("#classes [data-key=cup]")
+        ticked = "[...document.querySelectorAll('.order tr.ticked')].map(row => row.dataset.sail).join(' ')"
+
+        steps = ((["STRIKE 1 GBR7", "FINISH 1 GBR7"], "GBR33", "4"), (["STRIKE 1 GBR7", "TIE 1 GBR7 GBR33"], "", "1="),
+                 (["MARK 1 NED12 RET"], "GBR33 GBR7 GBR101", "RET"), (["PENALTY 1 GBR7 ZFP"], "GBR33 GBR101 NED12", "ZFP"))
+        for lines, left, sign in steps:
+            with self.subTest(lines=lines):
+                scorer.until("document.querySelectorAll('.tick button').length === 4")
+                scorer.run("document.querySelectorAll('.tick button[aria-pressed=false]').forEach(one => one.click())")
+                scorer.until("document.querySelectorAll('.order tr.ticked').length === 4")
+                for line in lines:
+                    self.assertEqual(desk.tap(line)[0], 200)
+                scorer.until(f"document.querySelector('.order tr[data-sail={lines[-1].split()[2]}]')?.textContent.includes('{sign}')")
+                self.assertEqual(scorer.run(ticked), left)
+        asked = desk.tap("ABANDON 1")[1]["question"]
+        self.assertEqual(desk.tap("ABANDON 1", agreed=[asked])[0], 200)
+        for sail in ("GBR33", "GBR101"):
+            desk.tap(f"FINISH 1 {sail}")
+        scorer.until("document.querySelectorAll('.order tbody tr').length === 2")
+        self.assertEqual(scorer.run(ticked), "")
+        self.need_no_faults()
+
     def test_sent_again(self) -> None:
         """The jury looks at another class while a decision waits for the network: it is sent about its own."""
         desk = web_devices.Device(self.port, "scorer").come(self.links["scorer"], "Ada")

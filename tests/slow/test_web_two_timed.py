@@ -5,6 +5,7 @@ import os
 import unittest
 
 import helpers
+import web_devices
 from devices import Device
 from web_office import WebTrial, zone_of_afternoon
 
@@ -76,6 +77,30 @@ class TwoTimed(TimedTrial):
         self.race(phone, "fleet", "none")
         phone.click("#start")
         phone.until(f"{TITLE} === 'Folkboats: Start of race 1'")
+        self.need_no_faults()
+
+    def test_race_of_each_class(self) -> None:
+        """The race whose sheet the scorer looks at is one of its class: another class has its own, and so it is beside the paper. A
+        sheet that is saved is that one's."""
+        ann = web_devices.Device(self.port, "finish").come(self.links["finish"], "Ann")
+        for name, race in (("cup", 3), ("fleet", 1)):
+            self.assertEqual(ann.tap(f"START {race} 00:00:00", name=name, was="")[0], 200)
+        scorer = self.device("scorer", "Bea’s laptop")
+        steps = (("cup", "Folkboats", 3), ("fleet", "Dinghies", 1), ("cup", "Folkboats", 2), ("fleet", "Dinghies", 1), ("cup", "Folkboats", 2))
+        is_shown = "document.querySelector('#title').textContent === '{}' && document.querySelector('main h2')?.textContent.trim() === '{}'"
+        for at, (name, title, race) in enumerate(steps):
+            scorer.click(f"#classes [data-key={name}]")
+            scorer.until("!!document.querySelector('#tab-times')")
+            scorer.click("#tab-times")
+            if at == 2:
+                scorer.until(is_shown.format(title, "Times sheet of race 3"))
+                scorer.type("#times-race", "2")
+            scorer.until(is_shown.format(title, f"Times sheet of race {race}"))
+        scorer.click("#tab-races")
+        scorer.until(is_shown.format("Folkboats", "Race 2"))
+        scorer.click(".races [data-key='3']")
+        scorer.click("#tab-times")
+        scorer.until(is_shown.format("Folkboats", "Times sheet of race 3"))
         self.need_no_faults()
 
     def test_in_the_order_of_taps(self) -> None:

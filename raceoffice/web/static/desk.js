@@ -8,6 +8,8 @@ import {sendLine} from "./sending.js";
 import {spaced} from "./sails.js";
 
 const states = {};
+// The race that a scorer has chosen of each class
+const chosenRaces = {};
 // The class that is shown
 export let here = "";
 let drawing = () => {}, link = "away";
@@ -34,6 +36,16 @@ export function emptyRace() {
 }
 
 export const raceNumbered = (name, number) => ({...emptyRace(), ...state(name)?.races[number]});
+
+// The race of a class that a scorer looks at, on whatever part of the page: the one that was chosen, or the last that doesn't count
+export function raceShown(name = here) {
+  const races = state(name)?.races ?? {}, numbers = Object.keys(races).map(Number);
+  return chosenRaces[name] ??= numbers.filter(one => !races[one].counts).at(-1) ?? Math.max(1, ...numbers);
+}
+
+export function chooseRace(number, name = here) {
+  chosenRaces[name] = number;
+}
 
 // What a boat holds in a race: her code, penalties and redress
 export function heldIn(race, sail) {

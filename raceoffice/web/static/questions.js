@@ -16,6 +16,7 @@ const VARIANTS = {
   "announce": values => values.state === "final" ? "" : `.${values.state}`,
   "take-over": values => values.since ? ".since" : "",
   "new-rules": values => values.isReopened ? ".reopen" : "",
+  "after-since": values => values.others.length ? "" : ".changed",
   "abandon": values => values.lines.length ? "" : ".places",
   "others-recorded": values => (values.others.length ? "" : ".changed") + (values.ahead ? ".ahead" : "") + (values.untimed?.length ? ".untimed" : ""),
 };

@@ -2,6 +2,7 @@
 // The scorer's corrections by pointing: what can be done about a boat of a class in a race.
 import {element} from "./elements.js";
 import {text} from "./texts.js";
+import {now} from "./office.js";
 import {choose, say} from "./dialogs.js";
 import {CODES, PENALTIES, spaced} from "./sails.js";
 import {called, heldIn, isIn, missingFrom, raceNumbered, send, state} from "./desk.js";
@@ -19,11 +20,17 @@ function startShown(name, words) {
   return number ? {was: state(name).races[number]?.sheet?.start ?? ""} : {};
 }
 
-// Sends a line, and says what the office said of it. One that was chosen in a window goes with the entries that were `seen` as
-// that was opened: the office asks about what others have recorded since.
+// What came of a line: without what was shown before it was asked about, unless that is all
+function outcomeOf(said) {
+  const after = said.filter(one => one.kind !== "shown");
+  return saidWords(after.length ? after : said);
+}
+
+// Sends a line, and says what came of it. One that was chosen in a window goes with the entries that were `seen` as that was
+// opened: the office asks about what others have recorded since.
 export async function line(name, words, more) {
   const done = await send(name, words, {...startShown(name, words), ...more});
-  if (done && done.outcome !== "refused") say(saidWords(done.said).slice(0, 2).join("\n"));
+  if (done && done.outcome !== "refused") say(outcomeOf(done.said).slice(0, 2).join("\n"));
   return done;
 }
 
@@ -44,18 +51,25 @@ function choicesOf(name, race, sail, held) {
     .map(([value, key, look]) => ({value, label: text(key), look}));
 }
 
+// What a window shows as it is opened: how many entries there are, the last boat of the order besides hers, and when that is. The
+// office asks about what others have recorded since.
+function asOpened(name, race, sail = "") {
+  return {seen: state(name).entries, behind: finishersBut(race, sail).at(-1) ?? "", at: now()};
+}
+
 // Asks what is to be done about a boat, and does it.
 export async function correct(name, number, sail) {
-  const race = raceNumbered(name, number), held = heldIn(race, sail), seen = state(name).entries;
+  const race = raceNumbered(name, number), held = heldIn(race, sail), opened = asOpened(name, race, sail), {seen} = opened;
   const done = await choose(text("scorer.boatInRace", {boat: called(sail, name), number}), held.length ? text("scorer.sheHolds", {held}) : "",
     [...choicesOf(name, race, sail, held), cancel()], "stack");
-  const single = {strike: `STRIKE ${number} ${sail}`, clear: `CLEAR ${number} ${sail}`, last: `FINISH ${number} ${sail}`}[done];
+  const single = {strike: `STRIKE ${number} ${sail}`, clear: `CLEAR ${number} ${sail}`}[done];
   if (single) line(name, single, {seen});
+  else if (done === "last") line(name, `FINISH ${number} ${sail}`, opened);
   else if (done === "time") typeTime(name, race, number, sail, seen);
   else if (done === "code") askCode(name, number, sail, seen);
-  else if (done === "ahead" || done === "level") insertAt(name, race, number, sail, done);
-  else if (done === "into") putInto(name, race, number, sail);
-  else if (done === "move") moveTo(name, race, number, sail);
+  else if (done === "ahead" || done === "level") insertAt(name, race, number, sail, done, opened);
+  else if (done === "into") putInto(name, race, number, sail, opened);
+  else if (done === "move") moveTo(name, race, number, sail, opened);
   else if (done === "swap") swapWith(name, race, number, sail);
 }
 
@@ -71,27 +85,27 @@ function typeTime(name, race, number, sail, seen) {
   return correctByHand(name, number, {sail, finish, elapsed: finish ? "" : elapsed ?? "", code}, seen);
 }
 
-async function insertAt(name, race, number, sail, how) {
+async function insertAt(name, race, number, sail, how, {seen, at}) {
   const title = text(how === "ahead" ? "scorer.justAheadOf" : "scorer.levelWith", {sail: spaced(sail)});
   const other = await findBoat(name, title, missingFrom(name, race));
-  if (other) line(name, `${how === "ahead" ? "BEFORE" : "TIE"} ${number} ${other} ${sail}`);
+  if (other) line(name, `${how === "ahead" ? "BEFORE" : "TIE"} ${number} ${other} ${sail}`, {seen, at});
 }
 
 const finishersBut = (race, sail) => race.order.flat().filter(other => other !== sail);
 
-async function putInto(name, race, number, sail) {
+async function putInto(name, race, number, sail, {seen, at}) {
   const other = await findBoat(name, text("scorer.aheadOfWhom", {sail: spaced(sail)}), finishersBut(race, sail));
-  if (other) line(name, `BEFORE ${number} ${sail} ${other}`);
+  if (other) line(name, `BEFORE ${number} ${sail} ${other}`, {seen, at});
 }
 
-async function moveTo(name, race, number, sail) {
+async function moveTo(name, race, number, sail, {behind, at}) {
   const how = await choose(text("scorer.whereTo", {sail: spaced(sail)}), [], [{value: "ahead", label: text("scorer.aheadOfAnother")},
     {value: "level", label: text("scorer.levelWithAnother")}, {value: "last", label: text("scorer.afterAll")}, cancel()], "stack");
   if (!how) return;
   const other = how === "last" ? "" : await findBoat(name, text(how === "ahead" ? "scorer.aheadOfWhom" : "scorer.levelWithWhom", {sail: spaced(sail)}),
     finishersBut(race, sail));
-  if (how === "last") lines(name, linesOfMove(number, sail, ""));
-  else if (other) lines(name, how === "ahead" ? linesOfMove(number, sail, other) : linesOfLevel(number, sail, other));
+  if (how === "last" || other)
+    lines(name, how === "level" ? linesOfLevel(number, sail, other) : linesOfMove(number, sail, other), {more: {behind, at}});
 }
 
 async function swapWith(name, race, number, sail) {
@@ -105,14 +119,14 @@ async function swapWith(name, race, number, sail) {
 
 // A boat that finished after all others, or at a time that is asked for
 export async function addFinisher(name, number) {
-  const race = raceNumbered(name, number), seen = state(name).entries;
+  const race = raceNumbered(name, number), opened = asOpened(name, race);
   if (state(name).handicap) {
     const finisher = await findBoat(name, text("scorer.addFinisher"), missingFrom(name, race).filter(sail => !hasFinished(race, sail)));
-    if (finisher) typeTime(name, race, number, finisher, seen);
+    if (finisher) typeTime(name, race, number, finisher, opened.seen);
     return;
   }
   const sail = await findBoat(name, text("scorer.whoFinishedLast"), missingFrom(name, race), text("scorer.elsewhereHint"));
-  if (sail) line(name, `FINISH ${number} ${sail}`);
+  if (sail) line(name, `FINISH ${number} ${sail}`, opened);
 }
 
 // A place that was kept: whose was it?

@@ -3,7 +3,7 @@
 // their rows of the sheet.
 import {element} from "./elements.js";
 import {text} from "./texts.js";
-import {ask, newId} from "./office.js";
+import {ask} from "./office.js";
 import {choose, say} from "./dialogs.js";
 import {remarkSentences, troubleWords} from "./remark-words.js";
 import {called, raceNumbered, state} from "./desk.js";
@@ -105,7 +105,7 @@ async function sheetToOther(name, number, race, {to, sails, coded, isAll}, codes
   const given = {race: to, rows: Object.fromEntries(rows), tag: other.tag, overnight: other.overnight || from.overnight};
   const several = linesOfOtherSheet(race, number, to, sails, moved, codes), agreed = await agreedOfLines(name, several);
   if (!agreed || await isOtherNow(name, number, from) || !isTaken(await ask(addressOf("sheet", name), given))) return;
-  if (await lines(name, several, newId(), agreed) && isAll) clearCourse(name, number);
+  if (await lines(name, several, {agreed}) && isAll) clearCourse(name, number);
 }
 
 // Whether somebody has changed a sheet while something was asked, which is said: nothing of what was shown is sent then

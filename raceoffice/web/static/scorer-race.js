@@ -13,23 +13,41 @@ import {unfinishedPart} from "./scorer-unfinished.js";
 import {correctNames, enterLate, takeOut, unlistedPart} from "./scorer-late.js";
 import {undoButton, undoLast} from "./scorer-undo.js";
 
-// What was compared with the paper on this page: "CLASS RACE SAIL"
-const ticked = new Set();
+// What was compared with the paper on this page: "CLASS RACE SAIL", each with what was shown of her then
+const ticked = new Map();
 let drawAgain = () => {};
 
 const codeTag = code => element("span", {class: `code ${kindOf(code)}`}, code);
 const placed = race => race.order.flat().filter(sail => !race.codes[sail]);
 
+const placeOf = ({place, isTied}) => `${place}${isTied ? "=" : ""}`;
+
 function rowsOf(name, race, number) {
   const rows = finishers(race).filter(row => row.gap || row.place)
-    .map(row => row.gap ? unreadRow(name, number, row) : boatRow(name, race, number, row.sail, `${row.place}${row.isTied ? "=" : ""}`, ordinal(row.place)));
+    .map(row => row.gap ? unreadRow(name, number, row) : boatRow(name, race, number, row.sail, placeOf(row), ordinal(row.place)));
   return [...rows, ...Object.entries(race.codes).map(([sail, code]) => boatRow(name, race, number, sail, codeTag(code), code))];
+}
+
+// What there is to compare with the paper of each boat: her place or, by corrected time, her finish, and what she holds; of the
+// race as it was sailed last. Of a boat that was tapped again it is something else, whatever her place.
+function toCompare(name, race, number) {
+  const places = new Map(finishers(race).filter(row => row.place).map(row => [row.sail, placeOf(row)])), {handicap, abandoned} = state(name);
+  return sail => JSON.stringify([handicap ? timeIn(name, race, sail) : places.get(sail), heldIn(race, sail), race.at[sail], abandoned?.[number]]);
+}
+
+// Forgets what was compared of boats of a race of which something else is shown now.
+function forgetOthers(name, race, number) {
+  const shown = toCompare(name, race, number);
+  for (const [sail] of state(name).boats) {
+    const key = `${name} ${number} ${sail}`;
+    if (ticked.has(key) && ticked.get(key) !== shown(sail)) ticked.delete(key);
+  }
 }
 
 function boatRow(name, race, number, sail, place, placeWords) {
   const key = `${name} ${number} ${sail}`, boat = boatOf(sail, name), isTicked = ticked.has(key);
   const held = heldIn(race, sail).filter(code => code !== race.codes[sail]);
-  const flip = () => { if (!ticked.delete(key)) ticked.add(key); drawAgain(); };
+  const flip = () => { if (!ticked.delete(key)) ticked.set(key, toCompare(name, race, number)(sail)); drawAgain(); };
   return element("tr", {class: isTicked ? "ticked" : "", "data-key": key, "data-sail": sail},
     element("td", {class: "tick"}, element("button", {type: "button", "aria-pressed": String(isTicked),
       "aria-label": text("scorer.asOnPaper", {boat: spaced(sail)}), onclick: flip}, "✓")),
@@ -129,7 +147,9 @@ function actions(name, race, number, isEmpty) {
 
 export function racePane(name, number, draw) {
   drawAgain = draw;
-  const race = raceNumbered(name, number), waiting = waitingIn(race), rows = rowsOf(name, race, number);
+  const race = raceNumbered(name, number), waiting = waitingIn(race);
+  forgetOthers(name, race, number);
+  const rows = rowsOf(name, race, number);
   const away = missingFrom(name, race).filter(sail => race.counts || !waiting.includes(sail));
   const counts = [text("scorer.finishedCount", {n: placed(race).length}), text("scorer.codedCount", {n: Object.keys(race.codes).length}),
     text(race.counts ? "scorer.dncCount" : "scorer.missingCount", {n: away.length}),

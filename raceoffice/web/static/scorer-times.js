@@ -9,14 +9,14 @@ import {remarkSentences, troubleWords} from "./remark-words.js";
 import {saidWords} from "./said-words.js";
 import {correctByHand} from "./finish-by-hand.js";
 import {spaced} from "./sails.js";
-import {send, state} from "./desk.js";
+import {chooseRace, raceShown, send, state} from "./desk.js";
 
 const RACES = 40;
 const HOUR = 3600, MINUTE = 60;
 // How often a sheet is saved again that boats finish in meanwhile
 const SAVES = 5;
-// The race that is shown, and its sheet
-let number = 0, shown = null;
+// The sheet that is shown
+let shown = null;
 
 const at = (name, more = "") => `sheet/${encodeURIComponent(name)}${more}`;
 
@@ -153,23 +153,23 @@ class Sheet {
   }
 }
 
-function raceField(again) {
-  const options = Array.from({length: RACES}, (_, place) => element("option", {value: place + 1, selected: place + 1 === number}, place + 1));
+function raceField(name, again) {
+  const options = Array.from({length: RACES}, (_, place) => element("option", {value: place + 1, selected: place + 1 === raceShown(name)}, place + 1));
   return element("label", {class: "field"}, text("common.race"),
-    element("select", {id: "times-race", onchange: event => { number = Number(event.target.value); again(); }}, options));
+    element("select", {id: "times-race", onchange: event => { chooseRace(Number(event.target.value), name); again(); }}, options));
 }
 
 // Shows the sheet of a race: again with what was typed into it, if it is shown already. Gives it, or null.
 async function show(page, name, before = null) {
-  const asked = number, seen = state(name)?.entries ?? 0, found = await ask(at(name, `/${asked}`)), again = sheet => show(page, name, sheet);
+  const asked = raceShown(name), seen = state(name)?.entries ?? 0, found = await ask(at(name, `/${asked}`)), again = sheet => show(page, name, sheet);
   // Somebody may have gone on to another race or class.
-  if (asked !== number || !page.isConnected) return null;
+  if (asked !== raceShown(name) || !page.isConnected) return null;
   const wrong = found.status !== 200 ? troubleWords(found) : remarkSentences(found.wrong).join("\n");
   // What was typed isn't thrown away for that.
   if (wrong && before) return null;
   shown = wrong ? null : new Sheet(name, found, again, seen);
   if (before) shown.takeOver(before);
-  page.replaceChildren(raceField(() => again()), shown?.node ?? element("p", {class: "step wrong"}, wrong));
+  page.replaceChildren(raceField(name, () => again()), shown?.node ?? element("p", {class: "step wrong"}, wrong));
   return shown;
 }
 
@@ -180,8 +180,7 @@ export function drawTimes() {
 
 // The page of a class by corrected time; it has a life of its own.
 export function timesPage(name) {
-  const races = Object.keys(state(name)?.races ?? {}).map(Number), page = element("main", {class: "steps"}, element("p", {class: "soft"}, text("times.reading")));
-  number ||= Math.max(1, ...races);
+  const page = element("main", {class: "steps"}, element("p", {class: "soft"}, text("times.reading")));
   show(page, name);
   return page;
 }

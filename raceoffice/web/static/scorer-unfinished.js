@@ -20,9 +20,10 @@ export async function agreedOfLines(name, several) {
   return (await sendWhole(name, newId(), several, {ask: true}))?.agreed ?? null;
 }
 
-// Sends the lines of one correction. Whether all were taken; if not, it is said which are left, and why.
-export async function lines(name, several, id = newId(), agreed = []) {
-  const came = several.length ? await sendWhole(name, id, several, {agreed}) : null;
+// Sends the lines of one correction, with what `more` its window has shown. Whether all were taken; if not, it is said which are
+// left, and why.
+export async function lines(name, several, {id = newId(), agreed = [], more = {}} = {}) {
+  const came = several.length ? await sendWhole(name, id, several, {agreed, ...more}) : null;
   if (!came) return false;
   const {outcome, done, left} = came;
   keepLast(name, {id: "", line: ""});
@@ -46,6 +47,6 @@ function sayLeft(name, outcome, sent, left) {
 export function unfinishedPart(name) {
   return (state(name).unfinished ?? []).map(({id, lines: left}) => element("div", {class: "waits unfinished", "data-key": id},
     element("p", {}, element("strong", {}, `${text("scorer.stopped")}. `), text("scorer.notSent")), mono(left),
-    element("div", {class: "acts"}, element("button", {type: "button", class: "main finish-it", onclick: () => lines(name, left, id)}, text("scorer.sendRest")),
+    element("div", {class: "acts"}, element("button", {type: "button", class: "main finish-it", onclick: () => lines(name, left, {id})}, text("scorer.sendRest")),
       element("button", {type: "button", class: "quiet bad leave-it", onclick: () => leave(name, id)}, text("scorer.leaveRest")))));
 }

@@ -3,7 +3,7 @@
 import {byId, element, fill} from "./elements.js";
 import {text} from "./texts.js";
 import {me} from "./office.js";
-import {beginDesk, drawClasses, here, state} from "./desk.js";
+import {beginDesk, chooseRace, drawClasses, here, raceShown, state} from "./desk.js";
 import {lastChange, standingTable} from "./standing.js";
 import {racePane} from "./scorer-race.js";
 import {lookAtResults, resultsPage} from "./scorer-results.js";
@@ -21,8 +21,6 @@ const RACES = 40;
 // Milliseconds between two looks at the devices, or at the results
 const LOOK = 4000;
 let tab = "races";
-// The race that is shown of each class
-const shownRaces = {};
 
 function standingPane() {
   const {standing, last, settings} = state(), isEmpty = !standing.races.length;
@@ -32,10 +30,10 @@ function standingPane() {
     lastChange(), isEmpty ? null : standingTable(standing.rows, standing.races, last?.moves), element("p", {class: "soft"}, rulesWords(settings)));
 }
 
-function raceTab(one) {
+function raceTab(one, number) {
   const found = state().races[one], words = text(found?.counts ? "scorer.counts" : found ? "scorer.open" : "scorer.new");
-  return element("button", {type: "button", "data-key": one, class: found?.counts ? "counts" : "", "aria-current": one === shownRaces[here] ? "true" : null,
-    "aria-label": `${text("common.race")} ${one}: ${words}`, onclick: () => { shownRaces[here] = one; draw(); }}, one, element("small", {}, words));
+  return element("button", {type: "button", "data-key": one, class: found?.counts ? "counts" : "", "aria-current": one === number ? "true" : null,
+    "aria-label": `${text("common.race")} ${one}: ${words}`, onclick: () => { chooseRace(one); draw(); }}, one, element("small", {}, words));
 }
 
 function emptyPage() {
@@ -45,11 +43,10 @@ function emptyPage() {
 
 function racesPage() {
   if (!state()) return emptyPage();
-  const numbers = Object.keys(state().races).map(Number), most = Math.min(RACES, Math.max(0, ...numbers) + 1);
-  shownRaces[here] ||= numbers.filter(one => !state().races[one].counts).at(-1) || Math.max(1, ...numbers);
+  const most = Math.min(RACES, Math.max(0, ...Object.keys(state().races).map(Number)) + 1), number = Math.min(raceShown(), most);
   return element("main", {class: "desk"},
-    element("nav", {class: "races", "aria-label": text("common.races")}, Array.from({length: most}, (_, at) => raceTab(at + 1))),
-    racePane(here, shownRaces[here], draw), standingPane());
+    element("nav", {class: "races", "aria-label": text("common.races")}, Array.from({length: most}, (_, at) => raceTab(at + 1, number))),
+    racePane(here, number, draw), standingPane());
 }
 
 // What is looked at while a tab is shown
