@@ -8,7 +8,7 @@ from collections.abc import Sequence
 from raceoffice.corrected.sheets import entries_of, fault_of_code, with_seconds
 from raceoffice.corrected.sheets import HEADS as COLUMNS
 from raceoffice.corrected.times import KEYS, ROUNDINGS, RULES, SYSTEMS
-from raceoffice.errors import NotSent, NotThere, Trouble
+from raceoffice.errors import NotSent, NotThere, Trouble, as_trouble
 from raceoffice.files import replace_whole
 from raceoffice.remarks import Remark, remark
 from raceoffice.series.entry_list import plain
@@ -41,12 +41,13 @@ class SheetOfRace:
         if self.faults and not (found and self.is_to_mend):
             raise Trouble(*self.faults)
         table = table_of(data)
-        self.heads = list(table.heads)
-        self.places = columns(self.heads, SHEET)
+        self.places = columns(table.heads, SHEET)
         # In the new text only commas part the columns.
         numbers = [self.places.get("distance")]
-        self.rows = [[table.number(row, at) if at in numbers else cell for at, cell in enumerate(row)]
-                     for _, row in table.rows]
+        rows = [[table.number(row, at) if at in numbers else cell for at, cell in enumerate(row)] for _, row in table.rows]
+        # What stands right of the headings stays there: in a column that is added it would be a time or a code.
+        wide = table.width
+        self.heads, *self.rows = ([*row[:wide], *[""] * (wide - len(row))] for row in (table.heads, *rows))
         for key, head in HEADS.items():
             if key not in self.places:
                 self.places[key] = len(self.heads)
@@ -66,7 +67,7 @@ class SheetOfRace:
 
     def write(self) -> None:
         """Puts the sheet on the disk, whole."""
-        os.makedirs(os.path.dirname(self.path), exist_ok=True)
+        make_sheets(os.path.dirname(self.path))
         replace_whole(self.path, self.data)
 
     # Cells
@@ -220,8 +221,14 @@ def rules_text(system: str, rounding: str) -> bytes:
 def write_rules(folder: str, text: bytes) -> None:
     """Makes times/rules.ini of a new series."""
     path = os.path.join(folder, SHEETS, RULES)
-    os.makedirs(os.path.dirname(path), exist_ok=True)
+    make_sheets(os.path.dirname(path))
     replace_whole(path, text)
+
+
+def make_sheets(folder: str) -> None:
+    """Makes the folder of the sheets, if it isn't there. A Trouble if a link in its place leads nowhere."""
+    with as_trouble("file-unmade", name=folder):
+        os.makedirs(folder, exist_ok=True)
 
 
 def with_rule(text: str, key: str, value: str) -> str:

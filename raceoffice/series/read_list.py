@@ -42,6 +42,12 @@ class Table:
     heads: list[str]
     rows: Rows
 
+    @property
+    def width(self) -> int:
+        """How many columns have anything in them, or are before one that has."""
+        rows = [self.heads, *(row for _, row in self.rows)]
+        return max((at for row in rows for at, cell in enumerate(row, 1) if cell.strip()), default=0)
+
     def cell(self, row: Sequence[str], at: int | None) -> str:
         """A cell without the spaces around it; empty if the row ends before it."""
         return row[at].strip() if at is not None and at < len(row) else ""
@@ -118,11 +124,17 @@ def wrong_form(data: bytes, name: str) -> Remark | None:
     return None if table_of(data).heads else remark("list-empty", name=name)
 
 
+def csv_line(row: Sequence[str], separator: str = ",") -> str:
+    """A row as a list has it, without the end of its line. A cell with either sign of a line's end is quoted, whatever ends the
+    lines: when it is read again, each of them ends a row."""
+    made = io.StringIO(newline="")
+    csv.writer(made, delimiter=separator, lineterminator="\r\n").writerow(row)
+    return made.getvalue().removesuffix("\r\n")
+
+
 def as_csv(rows: Sequence[Sequence[str]]) -> bytes:
     """Rows as the program reads them."""
-    made = io.StringIO(newline="")
-    csv.writer(made, lineterminator="\n").writerows(rows)
-    return made.getvalue().encode()
+    return "".join(f"{csv_line(row)}\n" for row in rows).encode()
 
 
 def name_of(path: str) -> str:
