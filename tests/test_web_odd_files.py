@@ -15,7 +15,8 @@ from unittest import mock
 import helpers
 from raceoffice.corrected.sheets import WIDEST, entries_of
 from raceoffice.series.folder import Folder
-from raceoffice.series.read_list import as_csv, bytes_of, table_of
+from raceoffice.series.race_sheets import sheet_without_race, take_out_of_sheets
+from raceoffice.series.read_list import Table, as_csv, bytes_of, table_of
 from raceoffice.web.gate import Gate
 from raceoffice.web.room import Room
 from raceoffice.web.serving import Asked, Web as Served
@@ -40,9 +41,12 @@ class Sheets(Prepared):
 
     def cells(self, sail: str) -> list[str]:
         """The cells of a boat's row, as they are read."""
-        rows = table_of(bytes_of(os.path.join(self.here, *SHEET))).rows
-        found, = [row for _, row in rows if row[0] == sail]
+        found, = [row for _, row in self.table().rows if row[0] == sail]
         return found
+
+    def table(self) -> Table:
+        """The sheet as it is read."""
+        return table_of(bytes_of(os.path.join(self.here, *SHEET)))
 
     def need_sailed(self) -> None:
         """Race 1 begins and is sailed, and only what was tapped is recorded: 3,600 s x 0.900 and a code."""
@@ -53,7 +57,7 @@ class Sheets(Prepared):
         self.assertEqual(ann.state()["races"]["1"]["sheet"]["wrong"], [])
 
     def test_without_a_heading(self) -> None:
-        """A remark that stands right of the headings is no time and no code, also if it reads like one, and stays."""
+        """A remark to the right of the headings is no time and no code, even if it reads like one, and isn't lost."""
         for text in ("Sail,Finish\nGBR101,,protest\n", "Sail,Start,Finish\nGBR101,,,ret\n", "Sail;Start;Finish\nGBR101;;;;14:00\n",
                      "Sail,Start,Finish,Code\nGBR101,,,,5\n"):
             with self.subTest(text=text):
@@ -82,8 +86,19 @@ class Sheets(Prepared):
         self.need_sailed()
         self.assertEqual({sail: self.cells(sail)[4] for sail in notes}, notes)
 
+    def test_title(self) -> None:
+        """The rows above the headings stay, also once a race is abandoned, or a boat is taken out."""
+        self.write_sheet('Race 1;"a\rb"\n\nRace committee: Bea\nSail;Start;Finish\nGBR101;;\n')
+        self.need_sailed()
+        above = [["Race 1", "a\rb"], ["Race committee: Bea"]]
+        folder = Folder(os.path.join(self.here, "cup"))
+        self.assertEqual(self.table().above, above)
+        self.assertEqual(table_of(sheet_without_race(folder, 1, ())).above, above)
+        take_out_of_sheets(folder, "NED12")
+        self.assertEqual((self.table().above, [row[0] for _, row in self.table().rows]), (above, ["GBR101", "GBR7", "FRA9"]))
+
     def test_wide(self) -> None:
-        """However many separators a spreadsheet has put behind the headings, a column that a tap adds is read again. A sheet
+        """However many separators a spreadsheet has put after the headings, a column that a tap adds is read again. A sheet
         with more columns than that is shown as one that can't be read."""
         self.write_sheet(f"Sail,Start,Finish{',' * 1100}\nGBR101,,{',' * 1100}\n")
         self.need_sailed()
@@ -149,8 +164,8 @@ class Registers(Web):
         ann, (first, last) = self.device("finish"), (new_id(), new_id())
         ann.tap("FINISH 1 GBR101", first)
         self.close()
-        whole: dict[str, Any] = {"id": new_id(), "role": "FINISH", "line": "FINISH 2 GBR7", "at": 1, "by": "Ann", "entries": 13, "window": 5, "own": "", "was": {}, "made": {},
-                                 "numbers": {"1": 1}}
+        whole: dict[str, Any] = {"id": new_id(), "role": "FINISH", "line": "FINISH 2 GBR7", "at": 1, "by": "Ann", "entries": 13,
+                                 "window": 5, "numbers": {"1": 1}, "own": "", "was": {}, "made": {}}
         answer: dict[str, Any] = {"id": first, "answer": "OK 13 1= 0.0", "mark": "", "said": []}
         lines: dict[str, Any] = {"id": f"{new_id()}/lines", "lines": [["SCORER", "STRIKE 1 GBR101"]]}
         odd_ones: list[Any] = [None, 7, "a", [], {}, {"id": None}]

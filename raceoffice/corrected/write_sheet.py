@@ -28,7 +28,7 @@ class SheetOfRace:
 
     def __init__(self, folder: Folder, race: int, is_to_mend: bool = False) -> None:
         self.path, self.name, self.is_to_mend = folder.file(sheet_name(race)), sheet_name(race), is_to_mend
-        self.heads, self.rows = list(HEADS.values()), list[list[str]]()
+        self.above, self.heads, self.rows = list[list[str]](), list(HEADS.values()), list[list[str]]()
         self.places, self.faults = columns(self.heads, SHEET), list[Remark]()
         try:
             self.read(bytes_of(self.path))
@@ -45,8 +45,9 @@ class SheetOfRace:
         # In the new text only commas part the columns.
         numbers = [self.places.get("distance")]
         rows = [[table.number(row, at) if at in numbers else cell for at, cell in enumerate(row)] for _, row in table.rows]
-        # What stands right of the headings stays there: in a column that is added it would be a time or a code.
+        # A remark to the right of the headings stays there: in a column that is added it would be a time or a code.
         wide = table.width
+        self.above = [*table.above]
         self.heads, *self.rows = ([*row[:wide], *[""] * (wide - len(row))] for row in (table.heads, *rows))
         for key, head in HEADS.items():
             if key not in self.places:
@@ -56,7 +57,7 @@ class SheetOfRace:
     @property
     def data(self) -> bytes:
         """The sheet as it is written."""
-        return as_csv([self.heads, *self.rows])
+        return as_csv([*self.above, self.heads, *self.rows])
 
     def need_mended(self) -> None:
         """A Trouble if as many rows can't be read as before, or if any can't where all could: a code that is taken away may leave

@@ -35,12 +35,13 @@ Rows = list[tuple[int, list[str]]]
 @dataclass(frozen=True)
 class Table:
     """The headings, and the rows below them. Numbers of rows are from 1 on, and count blank ones as well.
-    `title` is the number of a row above the headings, and 0 if there is none."""
+    `title` is the number of a row above the headings, and 0 if there is none; `above` are all of these rows."""
     separator: str
     title: int
     first: int
     heads: list[str]
     rows: Rows
+    above: Sequence[list[str]] = ()
 
     @property
     def width(self) -> int:
@@ -112,7 +113,7 @@ def table_of(data: bytes) -> Table:
     at = heading_at(rows) or 0
     number, heads = rows[at]
     title = rows[0][0] if at else 0
-    return Table(separator, title, number, heads, rows[at + 1:])
+    return Table(separator, title, number, heads, rows[at + 1:], [row for _, row in rows[:at]])
 
 
 def wrong_form(data: bytes, name: str) -> Remark | None:
