@@ -390,6 +390,7 @@ ENGLISH: dict[str, str | tuple[str, str] | tuple[str, str, str]] = {
     "reason-needed": "amended results need a reason. Nothing was announced",
     # What is wrong with a sheet of times, with its rules or with the ratings
     "sheet-cell": "{name}, row {row}, column {column}: {written!r} isn't {wanted}",
+    "sheet-wide": "{name} has more than {most} columns",
     "sheet-no-sails": "{name}, row 1: no column of sails, as Sail, SailNo or SailNumber",
     "sheet-no-times": "{name}, row 1: no column of times, as Elapsed, or Start and Finish",
     "sheet-decided": "{code} isn't for a sheet of times. docs/JURY.md says where it is typed",

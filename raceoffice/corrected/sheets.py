@@ -17,6 +17,8 @@ from raceoffice.series.read_list import Table, as_csv, table_of, wrong_form
 # What the program reads of a sheet, in this order.
 HEADS = {"sail": "Sail", "start": "Start", "finish": "Finish", "elapsed": "Elapsed", "laps": "Laps",
          "distance": "Distance"}
+# Columns that a sheet may have: all that are added to it are read, too.
+WIDEST = 900
 # Codes for which the program has no line.
 DECIDED = ("DPI", "NSC", "PRP", "RDG", "SCP", "T1", "TLE", "ZFP")
 
@@ -59,7 +61,7 @@ def entries_of(data: bytes, name: str) -> tuple[list[Entry], list[Remark]]:
         return [], [wrong]
     table = table_of(data)
     places = columns(table.heads, SHEET)
-    if fault := fault_of_heads(places, name):
+    if fault := fault_of_heads(places, name) or fault_of_width(table, name):
         return [], [fault]
     above: dict[str, str] = {}
     found = [entry_of(table, places, number, row, above) for number, row in table.rows]
@@ -90,6 +92,11 @@ def fault_of_heads(places: dict[str, int], name: str) -> Remark | None:
     if "elapsed" not in places and "finish" not in places:
         return remark("sheet-no-times", name=name)
     return None
+
+
+def fault_of_width(table: Table, name: str) -> Remark | None:
+    """That a sheet is too wide: a column that is added to it wouldn't be read again. None if it isn't."""
+    return remark("sheet-wide", name=name, most=WIDEST) if table.width > WIDEST else None
 
 
 def fault_of_entry(entry: Entry, shown: dict[str, str], name: str) -> Remark | None:

@@ -8,7 +8,7 @@ from collections.abc import Sequence
 from raceoffice.corrected.sheets import entries_of, fault_of_code, with_seconds
 from raceoffice.corrected.sheets import HEADS as COLUMNS
 from raceoffice.corrected.times import KEYS, ROUNDINGS, RULES, SYSTEMS
-from raceoffice.errors import NotSent, NotThere, Trouble
+from raceoffice.errors import NotSent, NotThere, Trouble, as_trouble
 from raceoffice.files import replace_whole
 from raceoffice.remarks import Remark, remark
 from raceoffice.series.entry_list import plain
@@ -28,7 +28,7 @@ class SheetOfRace:
 
     def __init__(self, folder: Folder, race: int, is_to_mend: bool = False) -> None:
         self.path, self.name, self.is_to_mend = folder.file(sheet_name(race)), sheet_name(race), is_to_mend
-        self.heads, self.rows = list(HEADS.values()), list[list[str]]()
+        self.above, self.heads, self.rows = list[list[str]](), list(HEADS.values()), list[list[str]]()
         self.places, self.faults = columns(self.heads, SHEET), list[Remark]()
         try:
             self.read(bytes_of(self.path))
@@ -41,12 +41,14 @@ class SheetOfRace:
         if self.faults and not (found and self.is_to_mend):
             raise Trouble(*self.faults)
         table = table_of(data)
-        self.heads = list(table.heads)
-        self.places = columns(self.heads, SHEET)
+        self.places = columns(table.heads, SHEET)
         # In the new text only commas part the columns.
         numbers = [self.places.get("distance")]
-        self.rows = [[table.number(row, at) if at in numbers else cell for at, cell in enumerate(row)]
-                     for _, row in table.rows]
+        rows = [[table.number(row, at) if at in numbers else cell for at, cell in enumerate(row)] for _, row in table.rows]
+        # A remark to the right of the headings stays there: in a column that is added it would be a time or a code.
+        wide = table.width
+        self.above = [*table.above]
+        self.heads, *self.rows = ([*row[:wide], *[""] * (wide - len(row))] for row in (table.heads, *rows))
         for key, head in HEADS.items():
             if key not in self.places:
                 self.places[key] = len(self.heads)
@@ -55,7 +57,7 @@ class SheetOfRace:
     @property
     def data(self) -> bytes:
         """The sheet as it is written."""
-        return as_csv([self.heads, *self.rows])
+        return as_csv([*self.above, self.heads, *self.rows])
 
     def need_mended(self) -> None:
         """A Trouble if as many rows can't be read as before, or if any can't where all could: a code that is taken away may leave
@@ -66,7 +68,7 @@ class SheetOfRace:
 
     def write(self) -> None:
         """Puts the sheet on the disk, whole."""
-        os.makedirs(os.path.dirname(self.path), exist_ok=True)
+        make_sheets(os.path.dirname(self.path))
         replace_whole(self.path, self.data)
 
     # Cells
@@ -220,8 +222,14 @@ def rules_text(system: str, rounding: str) -> bytes:
 def write_rules(folder: str, text: bytes) -> None:
     """Makes times/rules.ini of a new series."""
     path = os.path.join(folder, SHEETS, RULES)
-    os.makedirs(os.path.dirname(path), exist_ok=True)
+    make_sheets(os.path.dirname(path))
     replace_whole(path, text)
+
+
+def make_sheets(folder: str) -> None:
+    """Makes the folder of the sheets, if it isn't there. A Trouble if a link in its place leads nowhere."""
+    with as_trouble("file-unmade", name=folder):
+        os.makedirs(folder, exist_ok=True)
 
 
 def with_rule(text: str, key: str, value: str) -> str:

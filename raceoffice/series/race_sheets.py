@@ -88,7 +88,7 @@ def take_row(path: str, sail: str) -> None:
     if len(rows) == len(held.rows) + 1:
         return
     if rows[1:]:
-        replace_whole(path, as_csv(rows))
+        replace_whole(path, as_csv([*held.above, *rows]))
     else:
         os.remove(path)
 
@@ -140,7 +140,7 @@ def sheet_without_race(folder: Folder, race: int, jury: Collection[str]) -> byte
         return b""
     recorded = [places[key] for key in RECORDED if key in places]
     after = [before[0], *(row_without_race(row, recorded, plain(row[places["sail"]]) in jury) for row in before[1:])]
-    return as_csv(after) if after != before else b""
+    return as_csv([*held.above, *after]) if after != before else b""
 
 
 def row_without_race(row: Sequence[str], recorded: Collection[int], is_jury: bool) -> list[str]:

@@ -35,12 +35,19 @@ Rows = list[tuple[int, list[str]]]
 @dataclass(frozen=True)
 class Table:
     """The headings, and the rows below them. Numbers of rows are from 1 on, and count blank ones as well.
-    `title` is the number of a row above the headings, and 0 if there is none."""
+    `title` is the number of a row above the headings, and 0 if there is none; `above` are all of these rows."""
     separator: str
     title: int
     first: int
     heads: list[str]
     rows: Rows
+    above: Sequence[list[str]] = ()
+
+    @property
+    def width(self) -> int:
+        """How many columns have anything in them, or are before one that has."""
+        rows = [self.heads, *(row for _, row in self.rows)]
+        return max((at for row in rows for at, cell in enumerate(row, 1) if cell.strip()), default=0)
 
     def cell(self, row: Sequence[str], at: int | None) -> str:
         """A cell without the spaces around it; empty if the row ends before it."""
@@ -126,7 +133,7 @@ def table_of(data: bytes) -> Table:
     at = heading_at(rows) or 0
     number, heads = rows[at]
     title = rows[0][0] if at else 0
-    return Table(separator, title, number, heads, rows[at + 1:])
+    return Table(separator, title, number, heads, rows[at + 1:], [row for _, row in rows[:at]])
 
 
 def wrong_form(data: bytes, name: str) -> Remark | None:
@@ -141,11 +148,17 @@ def wrong_form(data: bytes, name: str) -> Remark | None:
     return None if table.heads else remark("list-empty", name=name)
 
 
+def csv_line(row: Sequence[str], separator: str = ",") -> str:
+    """A row as a list has it, without the end of its line. A cell with either sign of a line's end is quoted, whatever ends the
+    lines: when it is read again, each of them ends a row."""
+    made = io.StringIO(newline="")
+    csv.writer(made, delimiter=separator, lineterminator="\r\n").writerow(row)
+    return made.getvalue().removesuffix("\r\n")
+
+
 def as_csv(rows: Sequence[Sequence[str]]) -> bytes:
     """Rows as the program reads them."""
-    made = io.StringIO(newline="")
-    csv.writer(made, lineterminator="\n").writerows(rows)
-    return made.getvalue().encode()
+    return "".join(f"{csv_line(row)}\n" for row in rows).encode()
 
 
 def name_of(path: str) -> str:

@@ -11,7 +11,7 @@ from raceoffice.errors import NotSent
 from raceoffice.remarks import remark, sign_remark
 from raceoffice.series.entry_list import plain, problems
 from raceoffice.series.headings import ENTRIES, columns
-from raceoffice.series.read_list import LARGEST, Table, table_of
+from raceoffice.series.read_list import LARGEST, Table, csv_line, table_of
 
 # The encoding of a list by its mark. The longer marks first: that of UTF-32 begins with that of UTF-16.
 ENCODINGS = {codecs.BOM_UTF8: "utf-8", codecs.BOM_UTF32_LE: "utf-32-le", codecs.BOM_UTF32_BE: "utf-32-be",
@@ -64,14 +64,12 @@ def text_with(text: str, table: Table, number: int, row: Sequence[str]) -> str:
     """The text of a list with a row in place of that of a number, or at its end if that is 0."""
     lines = list(io.StringIO(text, newline=""))
     end = next((mark for mark in LINE_ENDS if lines[0].endswith(mark)), "\n")
-    made = io.StringIO(newline="")
-    csv.writer(made, delimiter=table.separator, lineterminator=end).writerow(row)
     if number:
         first, last = lines_of_row(lines, table.separator, number)
     else:
         first = last = len(lines)
         lines[-1] += "" if lines[-1].endswith(LINE_ENDS) else end
-    return "".join([*lines[:first], made.getvalue(), *lines[last:]])
+    return "".join([*lines[:first], csv_line(row, table.separator) + end, *lines[last:]])
 
 
 def lines_of_row(lines: Sequence[str], separator: str, number: int) -> tuple[int, int]:

@@ -22,7 +22,7 @@ from raceoffice.web.requests import Wrong
 from raceoffice.web.room import Room
 from raceoffice.web.states import Values, question_of, remarks_in, said_of
 from raceoffice.web.sticks import sticks_shown
-from raceoffice.web.taps import NoTap, Sent, Tap
+from raceoffice.web.taps import NoTap, Sent, Tap, need_clock
 
 # The answer of the register to a declaration.
 DECLARED = "DECLARED"
@@ -132,7 +132,7 @@ class Declarations:
 
 def tap_of(values: Mapping[str, Any]) -> Tap:
     try:
-        return Tap.read({**values, "line": ""})
+        return need_clock(Tap.read({**values, "line": ""}))
     except NoTap:
         raise Wrong(400, "this isn't a declaration") from None
 

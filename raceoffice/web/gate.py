@@ -24,7 +24,7 @@ from raceoffice.characters import replaced
 from raceoffice.errors import NotThere, Trouble
 from raceoffice.files import read_whole, replace_whole
 from raceoffice.results.http_answers import addresses
-from raceoffice.web.own_clock import OwnClock
+from raceoffice.web.own_clock import OwnClock, need_numbers
 from raceoffice.web.rates import Rate
 from raceoffice.web.requests import Request, Wrong, hashed
 
@@ -64,8 +64,9 @@ def device_of(values: dict[str, Any]) -> Device:
     """A device as the file has it; a TypeError if a part of it is of another type."""
     device = Device(**values)
     texts, numbers = (device.mark, device.role, device.name, device.address), (device.since, device.heard, device.unsent)
-    if not (all(isinstance(text, str) for text in texts) and all(isinstance(one, (int, float)) for one in numbers)):
+    if not all(isinstance(text, str) for text in texts):
         raise TypeError("a part of a device is of another type")
+    need_numbers(numbers)
     return device
 
 

@@ -12,7 +12,7 @@ from raceoffice import system
 from raceoffice.errors import Fault, NotSent, Stopped, Trouble
 from raceoffice.office.before_opening import Ask, is_meant, is_right, keep_rules, mend, question_of_rules
 from raceoffice.office.keeping import Keeping
-from raceoffice.program.messages import move_text
+from raceoffice.program.messages import ROLES, move_text
 from raceoffice.remarks import Remark, in_a_row, remark
 from raceoffice.series import settings
 from raceoffice.series.folder import Folder, Lock, clock
@@ -33,6 +33,8 @@ from raceoffice.web.tap_session import Asked
 LOOK, TIMES, LONG = 0.2, 3, 600.0
 # Seconds until an office that couldn't be opened again is tried once more: at first, and at most.
 SOON, LATE = 1.0, 60.0
+# The seats that the web needs of an office: one to keep it, one to look, and one for each role.
+SEATS = 2 + len(ROLES)
 # How many of an office's words are kept for the scorer's page.
 SAID = 60
 # What the window of an office is shown of the devices that may write.
@@ -165,6 +167,7 @@ class KeptOffice:
     def is_kept(self, folder: Folder, ask: Ask) -> bool:
         """Whether the office is open with the settings as this folder has them."""
         folder.make_private()
+        folder.settings = dataclasses.replace(folder.settings, seats=max(SEATS, folder.settings.seats))
         keep_zone(folder, self.say)
         if fault := disk_fault(folder):
             self.say(fault)

@@ -6,10 +6,24 @@ a network, they grow no older by it.
 from __future__ import annotations
 
 import time
-from collections.abc import Mapping
+from collections.abc import Iterable, Mapping
 from typing import Any
 
 from raceoffice import system
+
+
+# The last second of a day in the year 9998, since 1970: no clock shows a later one.
+LAST = 253_370_000_000
+
+
+def need_numbers(values: Iterable[object]) -> None:
+    """A TypeError or ValueError unless each of these is a number that a clock may show."""
+    for value in values:
+        if not isinstance(value, (int, float)):
+            raise TypeError("a number is of another type")
+        # One that is no number is in no order.
+        if not 0 <= value <= LAST:
+            raise ValueError("no clock shows this")
 
 
 class OwnClock:
@@ -28,6 +42,7 @@ class OwnClock:
     def go_on(self, values: Mapping[str, Any]) -> None:
         """Goes on where a file has it. Since the computer was started again only its clock says how long that took; one
         that was set back says nothing."""
+        need_numbers([values["now"], values["uptime"], values["clock"]])
         is_same = values["boot"] == system.boot() != ""
         gone = system.uptime() - values["uptime"] if is_same else time.time() - values["clock"]
         self.ahead = values["now"] + max(0.0, gone) - system.uptime()

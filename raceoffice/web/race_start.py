@@ -2,6 +2,7 @@
 from __future__ import annotations
 
 import datetime
+import re
 import time
 import zoneinfo
 from collections.abc import Iterator
@@ -19,6 +20,8 @@ Zone = datetime.tzinfo | None
 AGAIN = datetime.timedelta(minutes=1)
 # The file in office/ with the zones of the series, how many bytes of it are read, and how many zones it has at most
 ZONE, LONGEST, MOST = "zone", 1 << 16, 100
+# A moment in it, in milliseconds since 1970
+MOMENT = re.compile("[0-9]{1,15}")
 # How it has the zone of a computer that isn't set by a name
 UNNAMED = "-"
 
@@ -144,7 +147,7 @@ def zones_kept(folder: Folder) -> list[tuple[int, str]]:
     """The zones by which the series went, each with the moment since when, and empty for that of this computer. An older
     package has noted one alone."""
     lines = [line.rpartition(" ") for line in text_if_any(folder.file(PRIVATE, ZONE), LONGEST).splitlines()]
-    found = [(int(since) if since.isdecimal() else 0, "" if name == UNNAMED else name) for since, _, name in lines]
+    found = [(int(since) if MOMENT.fullmatch(since) else 0, "" if name == UNNAMED else name) for since, _, name in lines]
     return [(since, name) for since, name in found if not name or time_zones.is_name(name)]
 
 

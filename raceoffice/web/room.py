@@ -68,7 +68,7 @@ class Room:
         self.held = held_alone(folder, address)
         try:
             self.register = Register(folder.file(PRIVATE, "web.taps"))
-        except Trouble:
+        except BaseException:
             os.close(self.held)
             raise
         self.sessions: dict[str, TapSession] = {}

@@ -39,7 +39,7 @@ from raceoffice.web.rulings import one_line
 from raceoffice.side_by_side import SideBySide
 from raceoffice.web.states import Values, question_of, remarks_of, said_of
 from raceoffice.web.tap_session import Asked
-from raceoffice.web.taps import LATEST, NoTap, Tap, agreed_in
+from raceoffice.web.taps import NoTap, Tap, agreed_in, need_clock
 from raceoffice.web.timed_taps import races_waiting
 from raceoffice.web.web_office import Class, WebOffice
 from raceoffice.web.workers import Workers
@@ -645,12 +645,9 @@ def of_text(request: Request, text: Text) -> Reply:
 
 def tap_of(values: dict[str, Any]) -> Tap:
     try:
-        tap = Tap.read(values)
+        return need_clock(Tap.read(values))
     except NoTap:
         raise Wrong(400, "this isn't a tap") from None
-    if tap.at > LATEST:
-        raise NotSent(remark("no-clock"))
-    return tap
 
 
 def ask_of_series(room: Room, tap: Tap) -> None:

@@ -20,7 +20,7 @@ from raceoffice.web.requests import Wrong
 from raceoffice.web.room import Room
 from raceoffice.web.series_settings import tag_of
 from raceoffice.web.states import Values, remarks_of
-from raceoffice.web.taps import NoTap, Tap, part_id
+from raceoffice.web.taps import NoTap, Tap, need_clock, part_id
 
 # Lines that give a boat something which CLEAR takes
 GIVING = ("MARK", "PENALTY", "REDRESS")
@@ -163,7 +163,7 @@ def written_of(tap: Tap) -> str:
 
 def tap_of(values: Mapping[str, Any]) -> Tap:
     try:
-        return Tap.read({**values, "line": ""}, MOST)
+        return need_clock(Tap.read({**values, "line": ""}, MOST))
     except NoTap:
         raise Wrong(400, "this isn't a tap") from None
 

@@ -21,7 +21,7 @@ from raceoffice.series.folder import Folder, clock
 from raceoffice.session.dialogue import Question
 from raceoffice.side_by_side import answer_of
 from raceoffice.terminal import question, say, say_if_heard
-from raceoffice.traces import WRITTEN, written
+from raceoffice.traces import WRITTEN, guarded, written
 from raceoffice.web import qr
 from raceoffice.web.gate import ROLES
 from raceoffice.web.hosting import Host, secure_with
@@ -95,7 +95,8 @@ class Web:
                 # A page has it served already.
                 continue
             try:
-                self.office.add(folder).office.open(self.is_yes)
+                with guarded(folder.path, Stopped):
+                    self.office.add(folder).office.open(self.is_yes)
             except Stopped:
                 return
             except Trouble as why:

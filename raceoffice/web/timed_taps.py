@@ -65,7 +65,8 @@ class TimedTap:
             # It was typed, so that nobody saw her at the moment of the tap.
             session.tap = dataclasses.replace(session.tap, at=0)
         self.is_given_back = bool(session.lines_back(session.tap.undoes)) and len(self.rest) == 2
-        self.is_begun, self.is_written = session.is_begun, session.are_lines_noted
+        # A rotten bit may have left its lines in the register, and not what the sheet had: then that is written again.
+        self.is_begun, self.is_written = session.is_begun, session.is_begun and session.are_lines_noted
         # The lines that the journal has from an earlier try.
         self.taken = session.lines_taken(self.sail) if self.is_begun else []
 

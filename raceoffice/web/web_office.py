@@ -270,8 +270,9 @@ class WebOffice:
 
 
 def gate_of(folders: list[Folder], names: list[str], is_secure: bool) -> Gate:
-    """Who may write, as the first folder's file has it. `names` are names of this computer, beside those that it has itself."""
-    for folder in folders:
+    """Who may write, as the first folder's file has it. `names` are names of this computer, beside those that it has itself.
+    What is wrong with another folder is said when its class is opened."""
+    for folder in folders[:1]:
         folder.make_private()
     try:
         path = folders[0].file(PRIVATE, DEVICES_FILE) if folders else ""
