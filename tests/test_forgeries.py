@@ -586,16 +586,17 @@ class Forgeries(ForgedPages):
     def test_memory_of_parts(self) -> None:
         """A page of parts or lines that the right one hasn't is taken apart no further than that has any."""
         page = self.made["results"]
-        for piece in ("<td>", "<tr>", "<table>", "<p>x", "ab\n", "\n"):
-            text = page[:1000] + "<table><tr>" + piece * (100_000 // len(piece))
-            tracemalloc.start()
-            self.addCleanup(tracemalloc.stop)
-            self.assertNotEqual(verifier.first_difference(text, page, lambda: None), "")
-            self.assertLess(tracemalloc.get_traced_memory()[1], 1_500_000, piece)
-            tracemalloc.stop()
+        for piece in ("<td>", "<p>x", "ab\n"):
+            text = page[:page.index("<main")] + "<table><tr>" + piece * (70_000 // len(piece))
+            with self.subTest(piece=piece):
+                tracemalloc.start()
+                self.addCleanup(tracemalloc.stop)
+                self.assertNotEqual(verifier.first_difference(text, page, lambda: None), "")
+                self.assertLess(tracemalloc.get_traced_memory()[1], 1_000_000)
+                tracemalloc.stop()
         self.assertIn("has more cells and texts than the right one, and line ", self.why(page.replace("</main>", "<p>x" * 9000)))
 
-    def test_lines(self) -> None:
+    def test_line_found(self) -> None:
         """The first line that differs is that which lists of lines give."""
         chosen = random.Random(7)
         for trial in range(helpers.trials(3000)):
@@ -608,6 +609,13 @@ class Forgeries(ForgedPages):
                 before = visible.STEP if trial % 50 == 0 else 0
                 long = "x\n" * before
                 self.assertEqual(visible.line_of(long + one, long + other), (wanted[0] + before, wanted[1]), (one, other))
+
+    def test_spaces(self) -> None:
+        """Of a long text the words are those of any."""
+        words = "  a\u00a0b\x1c\x85c \u2003\n d\u200be\t"
+        for many in (1, visible.LONGEST):
+            self.assertEqual(visible.single_spaced(words * many), " ".join((words * many).split()))
+        self.assertEqual(visible.single_spaced(" " * visible.LONGEST), "")
 
     def test_no_memory(self) -> None:
         """Where the memory runs out nothing can be said of a page, and of the next one all."""

@@ -29,12 +29,12 @@ class Mails(helpers.Series):
         super().setUp()
         here = self.make("tide", NAMED, exclude="2", title="\u6e2f" * 50, reason="x" + "\u6e2f" * 50)
         self.write(journal_of(here, *(line.replace("NED12", "12") for line in LINES)), "tide", "journal.txt")
-        self.text = mail([view_of(os.path.join(self.here, "tide"), lambda _: None)])
-        self.rows = [line for line in self.text.split("\n") if "GBR 101  " in line or HEBREW in line or "IRL 5  " in line]
+        self.mail = mail([view_of(os.path.join(self.here, "tide"), lambda _: None)])
+        self.rows = [line for line in self.mail.split("\n") if "GBR 101  " in line or HEBREW in line or "IRL 5  " in line]
 
     def test_wide(self) -> None:
         """No line takes more than 72 columns, and the net ends where it does in each row."""
-        for line in self.text.split("\n"):
+        for line in self.mail.split("\n"):
             self.assertLessEqual(columns(line), COLUMNS, line)
         self.assertEqual([columns(line) for line in self.rows], [COLUMNS] * 4)
 
@@ -48,7 +48,7 @@ class Mails(helpers.Series):
             strong = [kind for kind in strong if kind in ("L", "R", "AL")]
             self.assertEqual((strong[0], strong[-1]), ("L", "L"), line)
             self.assertRegex(line, "[0-9]+[.][0-9]$")
-        self.assertEqual(self.text.count("\u200e"), 4)
+        self.assertEqual(self.mail.count("\u200e"), 4)
 
 
 if __name__ == "__main__":

@@ -33,8 +33,8 @@ BEFORE = 20
 OFTEN = 10_000
 # Parts inside one another, and signs of a cell to which more are added. The package's pages have fewer.
 DEEPEST, LONGEST = 40, 10_000
-# Signs that are compared at once, to find where two texts differ.
-STEP = 1 << 16
+# Signs that are compared at once, to find where two texts differ, and of a long text those whose words are parted at once.
+STEP, PIECE = 1 << 16, 1 << 12
 
 
 def tokens(page: str) -> Iterator[tuple[str, str]]:
@@ -136,7 +136,7 @@ class Seen:
 
     def end_text(self) -> None:
         """Puts the text that was read where it belongs."""
-        text, self.pieces = " ".join("".join(self.pieces).split()), []
+        text, self.pieces = single_spaced("".join(self.pieces)), []
         if not text:
             return
         if self.cell is not None:
@@ -156,6 +156,17 @@ def unescaped(text: str, is_own: bool) -> str:
         text = text.replace(reference, sign)
     is_own = is_own or text.count("&") == text.count(AND)
     return text.replace(AND, "&") if is_own else html.unescape(text)
+
+
+def single_spaced(text: str) -> str:
+    """A text with one space wherever it has some, and none at its ends. Of a long one no list of words is made, which takes many
+    times as much memory."""
+    if len(text) < LONGEST:
+        return " ".join(text.split())
+    made = "".join(re.sub(r"\s+", " ", text[at:at + PIECE]) for at in range(0, len(text), PIECE))
+    while "  " in made:
+        made = made.replace("  ", " ")
+    return made.strip()
 
 
 def longer(text: str, more: str) -> str:
