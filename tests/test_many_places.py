@@ -5,8 +5,6 @@ from __future__ import annotations
 import os
 import random
 import unittest
-from collections.abc import Mapping
-from typing import Any
 from unittest import mock
 
 import helpers
@@ -29,12 +27,13 @@ class Taps(OnWater):
             if at < PLACES:
                 self.assertIsNotNone(self.phone.send(1, f"?{at} 1 NONE"))
             self.assertIsNotNone(self.phone.send(1, f"{'STRIKE' if at % 2 == 0 else 'FINISH'} 1 GBR7"))
-        done: Mapping[str, Any] | None = {"id": ""}
+        last = ""
         for line in ("FINISH 1 GBR7", "FINISH 2 GBR7", "STRIKE 1 GBR7", "UNDO", "STRIKE 1 GBR7", "? 1"):
             with mock.patch.object(LineOrder, "keep", autospec=True, side_effect=LineOrder.keep) as kept, \
                     mock.patch.object(LineOrder, "follow_line", autospec=True, side_effect=LineOrder.follow_line) as followed:
-                done = self.phone.send(1, line, str(done["id"]) if line == "UNDO" else "")
+                done = self.phone.send(1, line, last if line == "UNDO" else "")
             assert done is not None, line
+            last = str(done["id"])
             self.assertLess(kept.call_count + followed.call_count, MOST, line)
         self.assertEqual(self.seen(1)[-2:], [[f"?{PLACES}"], [f"?{PLACES + 1}"]])
 
