@@ -104,8 +104,8 @@ async function moveTo(name, race, number, sail, {behind, at}) {
   if (!how) return;
   const other = how === "last" ? "" : await findBoat(name, text(how === "ahead" ? "scorer.aheadOfWhom" : "scorer.levelWithWhom", {sail: spaced(sail)}),
     finishersBut(race, sail));
-  if (how === "last" || other)
-    lines(name, how === "level" ? linesOfLevel(number, sail, other) : linesOfMove(number, sail, other), {more: {behind, at}});
+  if (!other && how !== "last") return;
+  lines(name, how === "level" ? linesOfLevel(number, sail, other) : linesOfMove(number, sail, other), {more: {behind, at}});
 }
 
 async function swapWith(name, race, number, sail) {
