@@ -90,12 +90,13 @@ class Sheets(Prepared):
         """The rows above the headings stay, also once a race is abandoned, or a boat is taken out."""
         self.write_sheet('Race 1;"a\rb"\n\nRace committee: Bea\nSail;Start;Finish\nGBR101;;\n')
         self.need_sailed()
-        above = [["Race 1", "a\rb"], ["Race committee: Bea"]]
-        folder = Folder(os.path.join(self.here, "cup"))
-        self.assertEqual(self.table().above, above)
-        self.assertEqual(table_of(sheet_without_race(folder, 1, ())).above, above)
+        folder, path = Folder(os.path.join(self.here, "cup")), os.path.join(self.here, *SHEET)
+        begins = b'Race 1,"a\rb"\nRace committee: Bea\nSail,Start,Finish,Code\nGBR101,'
+        self.assertEqual(bytes_of(path)[:len(begins)], begins)
+        self.assertEqual(sheet_without_race(folder, 1, ())[:len(begins)], begins)
         take_out_of_sheets(folder, "NED12")
-        self.assertEqual((self.table().above, [row[0] for _, row in self.table().rows]), (above, ["GBR101", "GBR7", "FRA9"]))
+        self.assertEqual(bytes_of(path)[:len(begins)], begins)
+        self.assertEqual([row[0] for _, row in self.table().rows], ["GBR101", "GBR7", "FRA9"])
 
     def test_wide(self) -> None:
         """However many separators a spreadsheet has put after the headings, a column that a tap adds is read again. A sheet
