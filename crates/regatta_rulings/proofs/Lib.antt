@@ -1,5 +1,6 @@
 pub mod ArgumentFacts
 pub mod AverageFacts
+pub mod BarFacts
 pub mod LineFacts
 pub mod PointFacts
 pub mod PointWords

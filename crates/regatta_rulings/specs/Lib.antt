@@ -1,4 +1,5 @@
 pub mod Averages
+pub mod Bars
 pub mod DecisionLines
 pub mod DecisionWords
 pub mod RaceLists

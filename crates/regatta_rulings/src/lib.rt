@@ -8,6 +8,7 @@
 
 mod arguments;
 mod averaging;
+mod bars;
 mod decision;
 mod digits;
 mod fault;
@@ -19,6 +20,7 @@ mod shares;
 mod words;
 
 pub use averaging::{SailedRace, average_of};
+pub use bars::bar_of;
 pub use decision::{Amount, Bar, Decision, Limit, PenaltyName, Races, Ruling};
 pub use fault::DecisionFault;
 pub use points::{last_points, ruling_points};
