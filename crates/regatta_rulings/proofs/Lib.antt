@@ -1,5 +1,7 @@
 pub mod ArgumentFacts
 pub mod AverageFacts
+pub mod BarFacts
+pub mod LackedLines
 pub mod LineFacts
 pub mod PointFacts
 pub mod PointWords

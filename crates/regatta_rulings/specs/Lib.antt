@@ -1,11 +1,14 @@
 pub mod Averages
+pub mod Bars
 pub mod DecisionLines
 pub mod DecisionWords
+pub mod LackedLines
 pub mod RaceLists
 pub mod RulingLines
 pub mod RulingPoints
 pub mod Shares
 pub mod Undecided
+pub mod WorkedBars
 pub mod WorkedDecisions
 pub mod WorkedPoints
 pub mod WorkedShares

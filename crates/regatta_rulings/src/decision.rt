@@ -75,9 +75,21 @@ pub struct Decision {
     pub ruling: Ruling,
 }
 
-/// Why a decision comes to no points.
+/// Why a decision is barred, or comes to no points.
 #[derive(Clone, Copy, Debug, PartialEq, Eq)]
 pub enum Bar {
+    /// An earlier decision is about the same boat in the same race.
+    Twice,
+    /// The boat isn't entered.
+    NotEntered,
+    /// She holds DSQ or DNE there.
+    Disqualified,
+    /// She holds redress there that is an average: `ALL` or `PRIOR`.
+    Averaged,
+    /// The decision marks her as DNF, and she holds another code there.
+    Coded,
+    /// The decision gives points, and the race doesn't count.
+    Uncounted,
     /// Nobody finished, so there is no last place.
     NobodyFinished,
     /// An average names this race, which doesn't count.

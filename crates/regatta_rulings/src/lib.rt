@@ -8,10 +8,12 @@
 
 mod arguments;
 mod averaging;
+mod bars;
 mod decision;
 mod digits;
 mod fault;
 mod kind;
+mod lacking;
 mod points;
 mod race_list;
 mod reading;
@@ -19,8 +21,10 @@ mod shares;
 mod words;
 
 pub use averaging::{SailedRace, average_of};
+pub use bars::bar_of;
 pub use decision::{Amount, Bar, Decision, Limit, PenaltyName, Races, Ruling};
 pub use fault::DecisionFault;
+pub use lacking::is_met;
 pub use points::{last_points, ruling_points};
 pub use race_list::RaceList;
 pub use reading::read_decision;
