@@ -55,7 +55,7 @@ def row_lines(view: Snapshot, row: Row) -> list[str]:
     net = row.net if view.standing.races else "-"
     room = COLUMNS - len(first) - len(net) - 1
     names = cut(spread(", ".join(text for text in (boat.helm, boat.name, boat.club) if text)), room)
-    # Behind a name from right to left the net would be shown before it, and a line with digits alone before it be turned.
+    # After a name from right to left the net would be shown before it, and a line with digits alone before it be turned.
     mark = LEFT_TO_RIGHT if is_right_to_left(names) else ""
     scores = "  ".join(cell(*both) for both in zip(view.standing.races, row.scores))
     total = f"  total\u00a0{view.totals[row.sail]}" if view.totals else ""
