@@ -1,6 +1,6 @@
 -- What a run may be asked for, and a run that does it.
-use Rattle.std.specs.Prelude.{◌≡◌, ◌≤◌, ℕ, Bool, true, length, List, [], Option, Some, None}
-use Rattle.std.specs.Prelude.{IfOk, IfSome, OnOk, Ok, Result, ◌⊎◌}
+use Rattle.std.specs.Prelude.{◌≡◌, ◌≤◌, ℕ, Bool, true, false, length, List, [], Option, Some, None}
+use Rattle.std.specs.Prelude.{IfOk, IfSome, OnOk, Ok, Result, ◌⊎◌, ◌&&◌, nat_eq, not}
 use Rattle.std.specs.Io.KnownBytes.{Appends, Keeps}
 use mathlib.Core.List.{IsPrefix}
 use Rattle.regatta_streams.specs.Texts.{AppendsPrefix}
@@ -50,13 +50,19 @@ pub record CheckAsked : Type 0 where
   pub keep : Option (List ℕ)
 
 -- what `serve` is asked for: the series, the path of the file that keeps it, the path of the socket,
--- the number of seats, and the number of clients after which the door closes (0: never)
+-- the number of seats, the number of clients after which the door closes (0: never), and whether a line
+-- of the standard input ends it
 pub record ServingAsked : Type 0 where
   pub series : Series
   pub keep : Option (List ℕ)
   pub socket : List ℕ
   pub clients : ℕ
   pub sessions : ℕ
+  pub until_line : Bool
+
+-- whether both a number of clients and a line are to end a serving, which is refused
+abbrev pub two_ends : ServingAsked → Bool
+two_ends asked = asked.until_line && not (nat_eq asked.sessions 0)
 
 -- the entries of a journal file: those of some text, or none if no file is named; no proof knows
 -- what a file holds
@@ -232,5 +238,7 @@ pub record ServesFrom (Starts : RulesParts → Journal → Type 0) (old new : Op
     pub lawful : is_lawful limits rules start ≡ true
     pub table : PrintsTable rules start old new
 
-abbrev pub IsServingOf : ServingAsked → Option (List ℕ) → Option (List ℕ) → Type 0
-IsServingOf asked = ServesFrom (BeginsBy asked.keep asked.series)
+-- the same, by the one end that is asked for: none, a number of clients, or a line
+pub record IsServingOf (asked : ServingAsked) (old new : Option (List ℕ)) : Type 0 where
+  pub one_end : two_ends asked ≡ false
+  pub serves : ServesFrom (BeginsBy asked.keep asked.series) old new

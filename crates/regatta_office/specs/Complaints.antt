@@ -19,6 +19,7 @@ status_of (complaint.KeepDiffers at) = 1
 status_of complaint.KeepTooLong = 1
 status_of complaint.Unsound = 1
 status_of complaint.TwoFiles = 2
+status_of complaint.TwoEnds = 2
 status_of complaint.KeepTaken = 3
 status_of (complaint.KeepFault why) = 3
 status_of complaint.Device = 3

@@ -69,12 +69,12 @@ unfoldable pub with_start : App → App
 with_start app = with_rule (with_rule app (option (codes "journal"))) (option (codes "entries"))
 
 -- the options of the socket and its clients: the path is required; by default there are 4 seats and
--- no end
+-- no end, neither after a number of clients nor after a line of the standard input
 unfoldable pub with_seats : App → App
 with_seats app =
-    with_rule (with_rule (with_rule app (required (codes "socket")))
+    with_rule (with_rule (with_rule (with_rule app (required (codes "socket")))
     (number_option (codes "clients") (codes "4") 1 MAX_SEATS))
-    (number_option (codes "sessions") (codes "0") 0 MOST_SESSIONS)
+    (number_option (codes "sessions") (codes "0") 0 MOST_SESSIONS)) (flag (codes "until-line"))
 
 -- the subcommand `replay`: the options of the series, of its start and of the final part
 abbrev pub replay : ValueParser → App
@@ -168,22 +168,24 @@ abbrev pub number_by : Option Text → Option ℕ
 number_by = option_map (λ text. digits_value 10 (without_leading_plus text))
 
 -- what `serve` is asked for, from the values that the arguments or the defaults give
-abbrev pub serving_by : Option Series → Option Text → Option Text → Option ℕ → Option ℕ
+abbrev pub serving_by : Option Series → Option Text → Option Text → Option ℕ → Option ℕ → Bool
     → Option ServingAsked
-serving_by (Some series) keep (Some socket) (Some clients) (Some sessions) = Some (record {
+serving_by (Some series) keep (Some socket) (Some clients) (Some sessions) until_line = Some (record {
   series = series;
   keep = keep;
   socket = socket;
   clients = clients;
   sessions = sessions;
+  until_line = until_line;
 })
-serving_by _ _ _ _ _ = None
+serving_by _ _ _ _ _ _ = None
 
 -- the same, by the values of its options
 abbrev pub serving_with : (Text → Option Text) → Option ServingAsked
 serving_with value =
     serving_by (series_with value) (value (codes "keep")) (value (codes "socket"))
     (number_by (value (codes "clients"))) (number_by (value (codes "sessions")))
+    (is_given (value (codes "until-line")))
 
 -- what the subcommand asks for, from its name and its options
 abbrev pub asked_by : Option (Text × List Row) → Option Asked

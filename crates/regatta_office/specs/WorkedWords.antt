@@ -38,6 +38,7 @@ serving series clients sessions = Serve (record {
   socket = codes "s";
   clients = clients;
   sessions = sessions;
+  until_line = false;
 })
 
 pub runs : (parsers : Parsers) → Gives (asked_of parsers)
@@ -68,6 +69,18 @@ pub runs : (parsers : Parsers) → Gives (asked_of parsers)
           ∷ codes "--sessions=1000000" ∷ codes "--scp" ∷ codes "3" ∷ codes "--entries" ∷ codes "e" ∷ [],
       Some (serving (record default { scp = Some (codes "3"); entries = Some (codes "e") }) 16
           1000000),
+    )
+    -- until a line comes
+    ∷ (
+      codes "serve" ∷ codes "--until-line" ∷ codes "--socket" ∷ codes "s" ∷ [],
+      Some (Serve (record {
+        series = default;
+        keep = None;
+        socket = codes "s";
+        clients = 4;
+        sessions = 0;
+        until_line = true;
+      })),
     )
     -- under corrected times
     ∷ (

@@ -1,12 +1,13 @@
 //! Serves a series to clients at a socket.
-ghost use Rattle.std.specs.Prelude.{◌≡◌, ◌+◌, vec_len, IfOk, OnOk, IsErrOf};
-ghost use Rattle.regatta_service.specs.Doors.{streams_asked};
+ghost use Rattle.std.specs.Prelude.{◌≡◌, ◌+◌, vec_len, Err, IfOk, OnOk, IsErrOf, true};
 ghost use Rattle.regatta_service.specs.Servings.{ServesEach};
-ghost use Rattle.regatta_office.specs.Asked.{AtMostFrom, AtMostServingOf, Begins, IsServingOf};
-ghost use Rattle.regatta_office.specs.Asked.{ServesFrom, TablePrinted};
+ghost use Rattle.regatta_office.specs.Asked.{AtMostFrom, AtMostServingOf, Begins, BeginsBy};
+ghost use Rattle.regatta_office.specs.Asked.{IsServingOf};
+ghost use Rattle.regatta_office.specs.Asked.{ServesFrom, TablePrinted, two_ends};
 ghost use Rattle.regatta_office.specs.Faults.{failed_writes_in};
 
 use crate::complaint::Complaint;
+use crate::doors::door_of;
 use crate::final_part::print_final;
 use crate::form::Form;
 use crate::kept_clients::serve_kept_series;
@@ -15,7 +16,7 @@ use crate::scribe::ScribeFault;
 use crate::series::beginning_of;
 use regatta_desk::{Note, Office, OfficeName, Opened, Pass};
 use regatta_keeper::Uncovered;
-use regatta_service::{Admitted, Door, DoorFault, OpenGate, ServeFault, SocketDoor, serve_each};
+use regatta_service::{Admitted, Door, EndingGate, Gate, ServeFault, serve_each};
 use regatta_streams::{Device, Sink};
 use std::alloc::Global;
 use std::fs::{File, Files};
@@ -24,17 +25,6 @@ use std::net::{Net, TcpListener, TcpStream};
 use std::sync::Wait;
 use std::thread::Threads;
 use std::time::Clock;
-
-/// The door that the options ask for.
-pub(crate) fn door_of<R: Files + Net>(
-    rt: &R,
-    options: &ServeOptions<'_>,
-) -> Result<SocketDoor, DoorFault>
-    ensures { IfOk result (λ door. door.left ≡ streams_asked options.now.sessions) }
-{
-    let door = SocketDoor::bind(rt, options.socket, options.sessions)?;
-    Ok(door)
-}
 
 /// How serving an office ended.
 #[derive(Drop)]
@@ -49,12 +39,13 @@ struct Served<N: OfficeName, S> {
 
 /// Serves the door's clients, and then prints the table of the office's journal, however serving
 /// ended: what was committed stays.
-fn serve_and_print<N, H, R, D, W>(
+fn serve_and_print<N, H, R, D, G, W>(
     rt: &R,
     alloc: Global,
     office: &Office<N, H>,
     door: &mut D,
     passes: Vec<Pass<N>>,
+    gate: &G,
     start: Note,
     output: &mut W,
 ) -> Served<N, D::Stream>
@@ -63,6 +54,7 @@ where
     H: Wait + Drop + Send,
     R: Threads + Wait + Clock + Sync,
     D: Door,
+    G: Gate + Sync,
     W: Sink,
     requires start { start.history ≡ N.history }
     // The passes of all seats come back, and each client that the door gave was admitted once.
@@ -79,7 +71,7 @@ where
         ≡ W.failures output.old + failed_writes_in result.printed }
     ensures silent { IsErrOf result.printed ScribeFault.NoMemory → output.new ≡ output.old }
 {
-    let (back, admitted) = serve_each(rt, alloc, office, door, passes, &OpenGate);
+    let (back, admitted) = serve_each(rt, alloc, office, door, passes, gate);
     let mut guard = office.desk(rt);
     let desk = &mut *guard;
     desk.cover_note(start);
@@ -104,7 +96,7 @@ fn serve_office<N, H, R, W>(
 where
     N: OfficeName + Send + Sync,
     H: Wait + Drop + Send,
-    R: Files + Net + Threads + Wait + Clock + Sync,
+    R: Files<File = File> + Net + Threads + Wait + Clock + Sync,
     W: Sink,
     requires history { opened.history ≡ N.history }
     requires rules { opened.rules ≡ N.rules }
@@ -118,8 +110,12 @@ where
     let mut opened = opened;
     let start = opened.start_note();
     let (office, passes) = opened.split::<N>()?;
-    let mut door = door_of(rt, options)?;
-    let served = serve_and_print(rt, alloc, &office, &mut door, passes, start, output);
+    let made = door_of(rt, alloc, options)?;
+    let (mut door, stopping) = made;
+    let gate = EndingGate::new(stopping);
+    let served = serve_and_print(
+        rt, alloc, &office, &mut door, passes, &gate, start, output,
+    );
     let Served {
         back,
         admitted: _,
@@ -143,7 +139,7 @@ fn serve_unkept_series<R, W>(
     output: &mut W,
 ) -> Result<(), Complaint>
 where
-    R: Files + AllocGlobal + Net + Threads + Wait + Clock + Sync,
+    R: Files<File = File> + AllocGlobal + Net + Threads + Wait + Clock + Sync,
     W: Sink,
     ensures done { OnOk result (ServesFrom (Begins options.now.series)
         (W.contents output.old) (W.contents output.new)) }
@@ -158,14 +154,53 @@ where
     Ok(())
 }
 
-/// Serves the series that the options ask for, and keeps it if they name a file for that. At the end
-/// prints the table.
+/// Serves the series that the options ask for, and keeps it if they name a file for that.
+fn serve_kept_or_not<R, W, E>(
+    rt: &R,
+    options: &ServeOptions<'_>,
+    output: &mut W,
+    errors: &mut E,
+) -> Result<(), Complaint>
+where
+    R: Files<File = File>
+        + AllocGlobal
+        + Net<Listener = TcpListener, Stream = TcpStream>
+        + Threads
+        + Wait
+        + Clock
+        + Sync,
+    R::Dir: Send + Sync,
+    W: Sink,
+    E: Sink,
+    ensures done { OnOk result (ServesFrom (BeginsBy options.now.keep options.now.series)
+        (W.contents output.old) (W.contents output.new)) }
+    ensures at_most { AtMostServingOf options.now (W.contents output.old)
+        (W.contents output.new) }
+{
+    match options.keep {
+        Some(path) => serve_kept_series(rt, options, path, output, errors),
+        None => serve_unkept_series(rt, options, output),
+    }
+}
+
+/// Whether both a number of clients and a line are to end the serving.
+fn has_two_ends(options: &ServeOptions<'_>) -> bool
+    ensures { result ≡ two_ends options.now }
+{
+    options.until_line && options.sessions != 0
+}
+
+/// Serves the series that the options ask for, and keeps it if they name a file for that. Serving ends
+/// after a number of clients, or after a line of the standard input, if either is asked for: then the
+/// door is closed, and once all sessions have ended the table is printed. It prints the table, too, if
+/// serving fails.
 ///
 /// # Errors
 ///
-/// The fault of the rules, the files or the start, before any client is served. `KeepFault` if a write
-/// or a sync of the kept file fails, `Device` if a socket or another write fails, or a seat doesn't
-/// come back, and `NoMemory` if an allocation fails.
+/// `TwoEnds` if both a number of clients and a line are to end it. The fault of the rules, the files or
+/// the start, before any client is served. `KeepFault` if a write or a sync of the kept file fails,
+/// `Device` if a socket, the standard input or another write fails, or a seat doesn't come back, and
+/// `NoMemory` if an allocation fails.
 pub(crate) fn serve_series<R, W, E>(
     rt: &R,
     options: &ServeOptions<'_>,
@@ -187,9 +222,14 @@ where
         (W.contents output.new)) }
     ensures at_most { AtMostServingOf options.now (W.contents output.old)
         (W.contents output.new) }
+
+    // Two ends are refused before anything is read or written.
+    ensures two { two_ends options.now ≡ true →
+        (result ≡ Err Complaint.TwoEnds) × (output.new ≡ output.old) }
 {
-    match options.keep {
-        Some(path) => serve_kept_series(rt, options, path, output, errors),
-        None => serve_unkept_series(rt, options, output),
+    if has_two_ends(options) {
+        return Err(Complaint::TwoEnds);
     }
+    serve_kept_or_not(rt, options, output, errors)?;
+    Ok(())
 }

@@ -52,6 +52,9 @@ pub enum Complaint {
     /// A journal file and a kept file are named to be checked, and not one of them.
     #[error("regatta: check takes --keep or --journal, and not both")]
     TwoFiles,
+    /// Both a number of clients and a line are to end a serving.
+    #[error("regatta: serve takes --sessions or --until-line, and not both")]
+    TwoEnds,
     /// Another office has the kept file.
     #[error("regatta: keep taken")]
     KeepTaken,
@@ -73,7 +76,7 @@ impl Complaint {
         ensures some { result ≢ 0 }
     {
         match self {
-            Complaint::Rules { .. } | Complaint::TwoFiles => 2,
+            Complaint::Rules { .. } | Complaint::TwoFiles | Complaint::TwoEnds => 2,
             Complaint::Entries { .. }
             | Complaint::Journal { .. }
             | Complaint::Start { .. }

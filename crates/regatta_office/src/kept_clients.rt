@@ -3,13 +3,13 @@ ghost use Rattle.std.specs.Prelude.{◌≡◌, ◌≢◌, ◌+◌, [], false, ve
 ghost use Rattle.std.specs.Prelude.{IfErr, IfOk, OnOk, IsErrOf};
 ghost use mathlib.Core.List.{IsPrefix};
 ghost use Rattle.regatta_keep.specs.Systems.{system_failed};
-ghost use Rattle.regatta_service.specs.Doors.{streams_asked};
 ghost use Rattle.regatta_service.specs.Servings.{ServesEach};
 ghost use Rattle.regatta_office.specs.Asked.{AtMostFrom, BeginsKept};
 ghost use Rattle.regatta_office.specs.Asked.{KeptTablePrinted, ServesFrom, TablePrinted};
 
 use crate::complaint::Complaint;
 use crate::cut_note::note_cut;
+use crate::doors::door_of;
 use crate::kept_file::{Held, held_at};
 use crate::options::ServeOptions;
 use crate::scribe::ScribeFault;
@@ -19,9 +19,7 @@ use crate::table_outlet::TableOutlet;
 use regatta_desk::{Note, Office, OfficeName, Opened, Pass};
 use regatta_keep::{Cause, Log, Opened as OpenedLog, open};
 use regatta_keeper::{CoverFault, Covered, Keeper, Kept, KeptBy, KeptName, Unkept, cover_all};
-use regatta_service::{
-    Admitted, Door, DoorFault, Gate, ServeFault, SocketDoor, Stopping, serve_kept,
-};
+use regatta_service::{Admitted, Door, Gate, ServeFault, serve_kept};
 use regatta_streams::{Device, Sink};
 use regatta_watch::History;
 use std::alloc::Global;
@@ -133,18 +131,6 @@ where
     }
 }
 
-/// The door that the options ask for, and what ends its waiting once the office has stopped.
-fn kept_door_of<R: Files + Net>(
-    rt: &R,
-    alloc: Global,
-    options: &ServeOptions<'_>,
-) -> Result<(SocketDoor, Stopping), DoorFault>
-    ensures { IfOk result (λ made. made.0.left ≡ streams_asked options.now.sessions) }
-{
-    let made = SocketDoor::bind_kept(rt, alloc, options.socket, options.sessions)?;
-    Ok(made)
-}
-
 /// How serving a kept office ended.
 #[derive(Drop)]
 struct KeptServed<'k, N: KeptName, L: Log + Drop, S> {
@@ -236,7 +222,12 @@ where
     N: KeptName + Send + Sync,
     L: Log + Drop + Send,
     H: Wait + Drop + Send,
-    R: Files + Net<Listener = TcpListener, Stream = TcpStream> + Threads + Wait + Clock + Sync,
+    R: Files<File = File>
+        + Net<Listener = TcpListener, Stream = TcpStream>
+        + Threads
+        + Wait
+        + Clock
+        + Sync,
     W: TableOutlet,
     requires start { start.history ≡ N.history }
     ensures printed { TablePrinted N.rules start.journal (W.contents output.old)
@@ -246,7 +237,7 @@ where
     ensures seats { IfOk result (λ back. vec_len back ≡ vec_len passes) }
 {
     let keeper = Mutex::new(keeper);
-    let made = kept_door_of(rt, alloc, options)?;
+    let made = door_of(rt, alloc, options)?;
     let (mut door, stopping) = made;
     // The start is on the disk before anybody is served.
     all_covered(rt, &keeper, office)?;
@@ -275,7 +266,12 @@ where
     N: KeptName + Send + Sync,
     L: Log + Drop + Send,
     H: Wait + Drop + Send,
-    R: Files + Net<Listener = TcpListener, Stream = TcpStream> + Threads + Wait + Clock + Sync,
+    R: Files<File = File>
+        + Net<Listener = TcpListener, Stream = TcpStream>
+        + Threads
+        + Wait
+        + Clock
+        + Sync,
     W: TableOutlet,
     requires history { opened.history ≡ N.history }
     requires rules { opened.rules ≡ N.rules }

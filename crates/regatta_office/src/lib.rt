@@ -8,6 +8,7 @@ mod clients;
 mod command_line;
 mod complaint;
 mod cut_note;
+mod doors;
 mod ends;
 mod explained;
 mod final_part;

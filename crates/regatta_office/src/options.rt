@@ -116,7 +116,8 @@ impl<'a> Model for CheckOptions<'a> {
 }
 
 /// What `regatta serve` is asked for: the series, the path of the file that keeps it, the path of the
-/// socket, the number of seats, and the number of clients after which the door closes (0: never).
+/// socket, the number of seats, the number of clients after which the door closes (0: never), and
+/// whether a line of the standard input ends it.
 #[derive(Drop)]
 pub(crate) struct ServeOptions<'a> {
     pub(crate) series: SeriesOptions<'a>,
@@ -124,6 +125,7 @@ pub(crate) struct ServeOptions<'a> {
     pub(crate) socket: &'a str,
     pub(crate) clients: u8,
     pub(crate) sessions: u32,
+    pub(crate) until_line: bool,
 }
 
 impl<'a> Model for ServeOptions<'a> {
@@ -138,6 +140,7 @@ impl<'a> Model for ServeOptions<'a> {
       socket = options.socket.now;
       clients = options.clients;
       sessions = options.sessions;
+      until_line = options.until_line;
     } };
 }
 
@@ -241,6 +244,10 @@ static SESSIONS: &str = "After how many clients serving ends and the table is pr
     turned away counted, up to 1000000; with 0 it goes on until it is stopped, and prints none. \
     Example: --sessions 12";
 
+static UNTIL_LINE: &str =
+    "Serves until a line comes on standard input, whose mere end ends nothing: then nobody is let in, \
+    clients have 10 seconds to leave, and the table is printed; not together with --sessions";
+
 static KEEP: &str = "The file that keeps the journal: each reply is written once all that it was \
     made from is on the disk, so nothing that was answered is lost in a crash. The file is made if \
     it isn't there, and the same command goes on from it. Example: --keep saturday.journal";
@@ -329,7 +336,8 @@ fn with_seats<'a>(alloc: Global, command: Command<'a>) -> Result<Command<'a>, Al
     let socket = option(alloc, "socket", "PATH", SOCKET).required(true);
     let clients = number_option(alloc, "clients", "4", 1, u64::from(MAX_SEATS), CLIENTS);
     let sessions = number_option(alloc, "sessions", "0", 0, MOST_SESSIONS, SESSIONS);
-    let command = command.arg(socket)?.arg(clients)?.arg(sessions)?;
+    let until_line = flag(alloc, "until-line", UNTIL_LINE);
+    let command = command.arg(socket)?.arg(clients)?.arg(sessions)?.arg(until_line)?;
     Ok(command)
 }
 
@@ -524,6 +532,7 @@ fn serving_asked<'a>(options: &ArgMatches<'a>) -> Option<ServeOptions<'a>>
     let clients = number_of(options, "clients")?;
     let clients = u8::try_from(clients).ok()?;
     let sessions = number_of(options, "sessions")?;
+    let until_line = is_given(options.get_str("until-line"));
     let series = series_of(options)?;
     Some(ServeOptions {
         series,
@@ -531,6 +540,7 @@ fn serving_asked<'a>(options: &ArgMatches<'a>) -> Option<ServeOptions<'a>>
         socket,
         clients,
         sessions,
+        until_line,
     })
 }
 

@@ -4,8 +4,9 @@ use regatta_keeper::{Keeper, KeptName};
 use regatta_service::{End, Gate, Stopping};
 use std::sync::{Mutex, Wait};
 
-/// A gate that stops no line. Once the keeper has stopped, it says so to the door and the streams of
-/// silent clients, which look each second.
+/// A gate that stops a line only after one has ended the office, and clients have had the time to leave.
+/// Once the keeper has stopped, it says so to the door and the streams of silent clients, which look
+/// each second.
 #[derive(Drop)]
 pub(crate) struct StoppingGate<'a, N: KeptName, L: Log + Drop, R> {
     rt: &'a R,
@@ -44,7 +45,7 @@ where
     R: Wait + Sync,
 {
     fn before(&self, _seat: u8, _line: u64) -> bool {
-        true
+        !self.stopping.stops_lines()
     }
 
     fn after(&self, _seat: u8, _line: u64) {}

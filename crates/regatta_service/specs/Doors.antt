@@ -2,10 +2,11 @@
 use Rattle.std.specs.Prelude.{ℕ, Bool, true, false, ◌-◌, Option, Some, None, Result, Ok, Err, nat_eq}
 use Rattle.std.specs.Prelude.{if◌then◌else◌, ◌≡◌, ◌+◌, OnErr, OnOk}
 
--- the number of streams that the door still gives, `None` for no limit, the number of its calls that
--- have failed, and the number of streams that it has given
+-- the number of streams that the door still gives, `None` for no limit, whether a line may close it, the
+-- number of its calls that have failed, and the number of streams that it has given
 pub record DoorParts : Type 0 where
   pub left : Option ℕ
+  pub by_line : Bool
   pub failures : ℕ
   pub given : ℕ
 
@@ -24,6 +25,11 @@ abbrev pub is_last : {A E : Type 0} → Result (Option A) E → Bool
 is_last (Ok (Some _)) = false
 is_last (Ok None) = true
 is_last (Err _) = true
+
+-- whether a line may end an office, by what shows its door that it is to end, if anything does
+abbrev pub ends_by_line : Option Bool → Bool
+ends_by_line (Some by_line) = by_line
+ends_by_line None = false
 
 -- whether no stream is left
 abbrev pub is_shut : Option ℕ → Bool

@@ -1,5 +1,6 @@
 pub mod Comings
 pub mod Doors
+pub mod Endings
 pub mod Ends
 pub mod Faults
 pub mod Keepings

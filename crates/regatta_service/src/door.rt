@@ -1,12 +1,13 @@
 //! Where clients come from.
-ghost use Rattle.std.specs.Prelude.{◌≡◌, ◌≢◌, ◌+◌, ◌<◌, ◌↔◌, ℕ, Bool, Ok, Some, None, length};
-ghost use Rattle.std.specs.Prelude.{IfOk, OnOk, OnErr, OnSome};
+ghost use Rattle.std.specs.Prelude.{◌≡◌, ◌≢◌, ◌+◌, ◌<◌, ◌×◌, ◌⊎◌, ℕ, Bool, true, false, Ok, Some, None};
+ghost use Rattle.std.specs.Prelude.{IfOk, IfSome, IsTrue, OnOk, OnErr, OnSome, length};
 ghost use Rattle.regatta_service.specs.Comings.{clients_in};
 ghost use Rattle.regatta_service.specs.Doors.{GivesNext, streams_asked, one_fewer};
-ghost use Rattle.regatta_service.specs.Doors.{one_if_some};
+ghost use Rattle.regatta_service.specs.Doors.{ends_by_line, streams_in};
 
 use crate::connection::{Connection, connection_of, refuse};
 use crate::count::Count;
+use crate::ending::LineCame;
 use crate::stopping::{Stopping, passes};
 use regatta_streams::{Device, Failures, Foreign, Sink, Source};
 use std::alloc::Global;
@@ -51,7 +52,8 @@ static PAUSES: [u64; 6] = [10, 50, 250, 500, 1000, 2000];
 #[derive(Drop)]
 enum Came {
     Client(Connection<UnixStream>),
-    /// The client was turned away, since the system has no descriptor for them.
+    /// The client was turned away: the system has no descriptor for them, or a line has ended the
+    /// office.
     TurnedAway,
     /// No client has come yet.
     NotYet,
@@ -79,11 +81,15 @@ fn accept_with(
 }
 
 /// The connection over a stream that was accepted. `None` if the system or memory has no room for it:
-/// the client is then turned away.
+/// the client is then turned away. Whoever comes after the line that ends an office finds the end of
+/// the stream.
 fn connected(stream: UnixStream, stopping: &Option<Stopping>) -> Option<Connection<UnixStream>> {
     let Some(stopping) = stopping else {
         return connection_of(stream, None);
     };
+    if stopping.line().is_some() {
+        return None;
+    }
     match stopping.share() {
         Some(shared) => connection_of(stream, Some(shared)),
         None => {
@@ -142,33 +148,50 @@ fn has_stopped(stopping: &Option<Stopping>) -> bool {
     }
 }
 
-/// The connection to the next client who isn't turned away. `None` if `accept` keeps failing, or if
-/// the office has stopped.
+/// The line that has ended the office, if it may end by one and one has come.
+fn line_of(stopping: &Option<Stopping>) -> Option<&LineCame>
+    ensures { IfSome result (λ _. ends_by_line stopping.now ≡ true) }
+{
+    match stopping {
+        Some(stopping) => stopping.line(),
+        None => None,
+    }
+}
+
+/// The connection to the next client who isn't turned away, or `None` if a line has ended the office.
+///
+/// # Errors
+///
+/// If `accept` keeps failing, or if the office has stopped.
 fn accepted<R: Wait + Clock>(
     rt: &R,
     listener: &UnixListener,
     spare: &mut Option<UnixListener>,
     stopping: &Option<Stopping>,
     came: &mut Count,
-) -> Option<Connection<UnixStream>>
-    ensures { came.new ≡ came.old + one_if_some result }
+) -> Result<Option<Connection<UnixStream>>, DoorFault>
+    ensures count { came.new ≡ came.old + streams_in result }
+    ensures line { result ≡ Ok None → ends_by_line stopping.now ≡ true }
 {
     for _ in rt.forever() {
+        if let Some(_line) = line_of(stopping) {
+            return Ok(None);
+        }
         match accept_again(rt, listener, spare, stopping, came) {
-            Came::Client(connection) => return Some(connection),
-            Came::Nobody => return None,
+            Came::Client(connection) => return Ok(Some(connection)),
+            Came::Nobody => return Err(DoorFault),
             Came::TurnedAway | Came::NotYet => {}
         }
         if has_stopped(stopping) {
-            return None;
+            return Err(DoorFault);
         }
     }
     unreachable!()
 }
 
-/// How long a door of an office that may stop waits for a client before it looks whether it has, in
-/// seconds.
-const ACCEPT_LIMIT: u64 = 1;
+/// How long a door waits for a client before it looks whether the office has stopped or a line has
+/// ended it, in milliseconds.
+const ACCEPT_LIMIT: u64 = 250;
 
 /// Sets the time limit of the calls of `accept`, which is that of a socket's reads. The result is false
 /// if the system sets none.
@@ -179,17 +202,18 @@ fn limit_waits(listener: &Option<UnixListener>) -> bool {
     let Ok(second) = listener.try_clone() else {
         return false;
     };
-    let limit = Duration::from_secs(ACCEPT_LIMIT);
+    let limit = Duration::from_millis(ACCEPT_LIMIT);
     UnixStream::from(OwnedFd::from(second))
         .set_read_timeout(Some(limit))
         .is_ok()
 }
 
-/// A door over a new Unix socket. It closes after the last stream that it gives, or when it fails.
-/// The system then refuses a client at once, even if sessions are still running.
+/// A door over a new Unix socket. It closes after the last stream that it gives, after the line that
+/// ends its office, or when it fails. The system then refuses a client at once, even if sessions are
+/// still running.
 ///
-/// It is seen as the number of streams that it still gives, `None` for no limit, and the number of
-/// its calls that have failed.
+/// It is seen as the number of streams that it still gives, `None` for no limit, whether a line may
+/// close it, and the number of its calls that have failed.
 #[derive(Drop)]
 pub struct SocketDoor {
     /// `None` if the door is closed.
@@ -197,7 +221,7 @@ pub struct SocketDoor {
     /// A second handle of the listener. When no descriptor is left, it is given up, so that the
     /// next client can be told that there is no seat.
     spare: Option<UnixListener>,
-    /// What shows the door's streams that the office has stopped, if it may.
+    /// What shows the door and its streams that the office is to end, if anything does.
     stopping: Option<Stopping>,
     left: Option<u32>,
     failures: Failures,
@@ -206,12 +230,13 @@ pub struct SocketDoor {
 
 impl Model for SocketDoor {
     ghost use Rattle.std.specs.Prelude.{◌≡◌, ◌↔◌, Some, IsNone};
-    ghost use Rattle.regatta_service.specs.Doors.{DoorParts};
+    ghost use Rattle.regatta_service.specs.Doors.{DoorParts, ends_by_line};
 
     ghost Value = { DoorParts };
 
     ghost view = { λ d. record {
       left = d.left;
+      by_line = ends_by_line d.stopping;
       failures = d.failures.count;
       given = d.came;
     } };
@@ -230,7 +255,7 @@ impl SocketDoor {
     /// path exists already. If an allocation fails.
     pub fn bind<R: Files + Net>(rt: &R, path: &str, sessions: u32) -> Result<SocketDoor, DoorFault>
         ensures door { IfOk result (λ door. door
-            ≡ record { left = streams_asked sessions; failures = 0; given = 0 }) }
+            ≡ record { left = streams_asked sessions; by_line = false; failures = 0; given = 0 }) }
         ensures named { OnOk result (0 < length path.now) }
     {
         if path.is_empty() {
@@ -251,22 +276,24 @@ impl SocketDoor {
     }
 
     /// Binds a new socket, as `bind` does, for an office that may stop: the handle then ends the
-    /// waiting for clients and for their lines.
+    /// waiting for clients and for their lines. With `by_line` a line may close the door, too.
     ///
     /// # Errors
     ///
     /// As `bind`.
-    pub fn bind_kept<R: Files + Net>(
+    pub fn bind_stopping<R: Files + Net>(
         rt: &R,
         alloc: Global,
         path: &str,
         sessions: u32,
+        by_line: bool,
     ) -> Result<(SocketDoor, Stopping), DoorFault>
         ensures door { IfOk result (λ made. made.0
-            ≡ record { left = streams_asked sessions; failures = 0; given = 0 }) }
+            ≡ record { left = streams_asked sessions; by_line = by_line; failures = 0; given = 0 }) }
+        ensures line { IfOk result (λ made. made.1 ≡ by_line) }
         ensures named { OnOk result (0 < length path.now) }
     {
-        let Ok(stopping) = Stopping::new(alloc) else {
+        let Ok(stopping) = Stopping::new(alloc, by_line) else {
             return Err(DoorFault);
         };
         let Some(shared) = stopping.share() else {
@@ -324,11 +351,15 @@ impl Door for SocketDoor {
     ) -> Result<Option<Foreign<Connection<UnixStream>>>, DoorFault>
         ensures next { GivesNext failures_of given_of is_closed self.old self.new result }
 
-        // The result is `None` exactly when no stream is left to give.
-        ensures closed { (result ≡ Ok None) ↔ (self.old.left ≡ Some 0) }
-        ensures shut { result ≡ Ok None → self.new ≡ self.old }
+        // A door that has given its last stream stays as it is. Any other says `None` only if a line
+        // may close it, and is then closed.
+        ensures shut { self.old.left ≡ Some 0 → (result ≡ Ok None) × (self.new ≡ self.old) }
+        ensures closed { result ≡ Ok None →
+            (self.old.left ≡ Some 0) ⊎ (self.old.by_line ≡ true) }
+        ensures none { result ≡ Ok None → self.new ≡ record self.old { left = Some 0 } }
         ensures given { IfOk result (λ stream. OnSome stream
             (self.new.left ≡ one_fewer self.old.left)) }
+        ensures same { self.new.by_line ≡ self.old.by_line }
 
         // A door that has failed gives no more streams.
         ensures err { OnErr result (self.new.left ≡ Some 0) }
@@ -336,18 +367,26 @@ impl Door for SocketDoor {
         let Some(listener) = &self.listener else {
             return Ok(None);
         };
-        let Some(connection) = accepted(
+        match accepted(
             rt,
             listener,
             &mut self.spare,
             &self.stopping,
             &mut self.came,
-        ) else {
-            self.failures = self.failures.one_more();
-            self.close();
-            return Err(DoorFault);
-        };
-        self.count_given();
-        Ok(Some(Foreign::new(connection)))
+        ) {
+            Ok(Some(connection)) => {
+                self.count_given();
+                Ok(Some(Foreign::new(connection)))
+            }
+            Ok(None) => {
+                self.close();
+                Ok(None)
+            }
+            Err(DoorFault) => {
+                self.failures = self.failures.one_more();
+                self.close();
+                Err(DoorFault)
+            }
+        }
     }
 }

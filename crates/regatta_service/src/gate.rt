@@ -1,6 +1,7 @@
 //! The gate that each session asks before it answers a line.
 
 use crate::sessions::End;
+use crate::stopping::Stopping;
 
 /// Asked before each line of a session is answered, and told when its reply was written. The lines
 /// of a session count from 1, unreadable ones included; the count stops at the greatest `u64`.
@@ -23,6 +24,30 @@ pub struct OpenGate;
 impl Gate for OpenGate {
     fn before(&self, _seat: u8, _line: u64) -> bool {
         true
+    }
+
+    fn after(&self, _seat: u8, _line: u64) {}
+
+    fn ended(&self, _seat: u8, _end: End) {}
+}
+
+/// A gate that stops each line, once clients of an office that a line has ended have had the time to
+/// leave.
+#[derive(Drop)]
+pub struct EndingGate {
+    stopping: Stopping,
+}
+
+impl EndingGate {
+    /// The gate of an office whose door and streams look at `stopping`.
+    pub fn new(stopping: Stopping) -> EndingGate {
+        EndingGate { stopping }
+    }
+}
+
+impl Gate for EndingGate {
+    fn before(&self, _seat: u8, _line: u64) -> bool {
+        !self.stopping.stops_lines()
     }
 
     fn after(&self, _seat: u8, _line: u64) {}

@@ -4,6 +4,7 @@
 mod connection;
 mod count;
 mod door;
+mod ending;
 mod gate;
 mod keeping;
 mod parting;
@@ -15,7 +16,8 @@ mod stopping;
 mod writing;
 
 pub use door::{Door, DoorFault, SocketDoor};
-pub use gate::{Gate, OpenGate};
+pub use ending::end_after_line;
+pub use gate::{EndingGate, Gate, OpenGate};
 pub use parting::Admitted;
 pub use serving::{ServeFault, serve, serve_each, serve_kept};
 pub use sessions::{End, session, session_kept};

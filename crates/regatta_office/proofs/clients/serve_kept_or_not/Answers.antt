@@ -1,7 +1,7 @@
 use Rattle.std.proofs.Common.{◌≡◌, ◌∙◌, List, None, OnOk, Option, Some, ap, rules, subst, sym, ℕ}
 use Rattle.std.specs.Option.{option_copied}
 use Rattle.regatta_office.specs.Asked.{AtMostFrom, BeginsBy, ServesFrom, ServingAsked}
-use Rattle.regatta_office.proofs.clients.serve_series.Goals as goal
+use Rattle.regatta_office.proofs.clients.serve_kept_or_not.Goals as goal
 
 -- a kept series
 pub returns-in-Some-clause-done : goal.returns-in-Some-clause-done
