@@ -191,7 +191,7 @@ class Keeping:
         beside = ""
         self.folder.set_closing(True, comes_back)
         try:
-            self.service.use_up()
+            self.service.let_nobody_in()
             self.wait_for_others()
             beside = self.save_last(self.service.link.sheet())
             self.service.leave()

@@ -10,6 +10,7 @@ from collections.abc import Callable
 
 from raceoffice import system
 from raceoffice.errors import Gone, Trouble
+from raceoffice.office import ending
 from raceoffice.files import PRIVATE, opened_as_ours, replace_whole, text_if_any
 from raceoffice.program.link import Link, remove_socket
 from raceoffice.program.messages import cut_note, without_note
@@ -21,12 +22,9 @@ from raceoffice.session.dialogue import Question
 from raceoffice.session.question_words import question
 from raceoffice.terminal import say_if_heard
 
-# The number of clients after which the program ends. Closing uses up the rest, so that it ends by
-# itself, with its table.
-SESSIONS = 4_000
 # Seconds that the program is given to open or to end, the windows to leave, and a program that is
-# stopped before it is killed.
-PATIENCE, LEAVE, SOON = 60.0, 10.0, 5.0
+# stopped before it is killed. The program itself stops whoever is left after ten seconds, this window too.
+PATIENCE, LEAVE, SOON = 60.0, 8.0, 5.0
 # How often the program is started, and the seconds between, if something has journal.txt: a command that
 # only looks whether an office has it holds its lock for a moment.
 TRIES, BETWEEN = 5, 0.3
@@ -78,10 +76,11 @@ class OfficeProcess:
         # Nobody takes the program over from this window before it is noted.
         self.show()
         with open(self.file("table"), "wb", opener=opened_as_ours) as table, \
-                open(self.file("fault"), "wb", opener=opened_as_ours) as fault, system.stops_deferred():
+                open(self.file("fault"), "wb", opener=opened_as_ours) as fault, \
+                ending.new_pipe(self.file(ending.NAME)) as pipe, system.stops_deferred():
             # A file that may not grow is a failed write then: Python leaves SIGXFSZ ignored.
             self.process = subprocess.Popen(
-                serve_words(self.folder, SESSIONS), cwd=self.file(), stdin=subprocess.DEVNULL,
+                serve_words(self.folder), cwd=self.file(), stdin=pipe,
                 stdout=table, stderr=fault, start_new_session=True, restore_signals=False,
                 pass_fds=[self.lock.file], umask=0o077)
         self.number = self.process.pid
@@ -195,24 +194,21 @@ class OfficeProcess:
         return self.process.poll() is not None if self.process else not self.lock.is_taken()
 
     def lets_in(self) -> bool:
-        """Whether the program still lets clients in: not after its last session."""
+        """Whether the program still lets clients in: not after it was told to end, or if its socket was removed."""
         return True in system.sockets_at(self.folder.socket)
 
     # Its end
 
-    def use_up(self) -> None:
-        """Comes and goes until the program lets nobody in any more."""
+    def let_nobody_in(self) -> None:
+        """Tells the program to end, and waits until it lets nobody in any more. Clients then have ten seconds to leave."""
+        if not os.path.lexists(self.folder.socket):
+            raise Trouble(remark("office-folder-gone"))
         end = time.monotonic() + PATIENCE
-        while time.monotonic() < end:
-            try:
-                Link(self.folder.socket).close()
-            except Gone:
-                if not os.path.lexists(self.folder.socket):
-                    raise Trouble(remark("office-folder-gone")) from None
-                return
-            except Trouble:
-                # The queue at the socket is full for a moment.
-                time.sleep(0.01)
+        if ending.is_told(self.number):
+            while time.monotonic() < end:
+                if not self.lets_in():
+                    return
+                time.sleep(0.02)
         raise Trouble(remark("office-lets-in"))
 
     def has_others(self) -> bool:
@@ -220,8 +216,10 @@ class OfficeProcess:
         return len(system.sockets_at(self.folder.socket)) > 1
 
     def leave(self) -> None:
-        """Leaves as the last client, and waits for the program's end."""
-        self.link.ask("QUIT")
+        """Leaves as the last client, and waits for the program's end. It has stopped this window's session if the last
+        copy took longer than clients have to leave."""
+        with contextlib.suppress(Trouble):
+            self.link.ask("QUIT")
         self.link.close()
         self.wait_for_end()
 

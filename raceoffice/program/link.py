@@ -150,7 +150,7 @@ def remove_socket(path: str) -> bool:
         raise unreachable(path, cause) from None
     if not stat.S_ISSOCK(file.st_mode):
         raise Trouble(remark("socket-other", path=path))
-    # Who connects uses up one of an office's --sessions, so the kernel is asked first.
+    # Whoever connects takes a seat for a moment, so the kernel is asked first.
     found = system.sockets_at(path, file.st_uid == system.account())
     if any(found) or not found and is_answered(path):
         raise Trouble(remark("socket-open", path=path))

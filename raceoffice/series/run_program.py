@@ -116,11 +116,11 @@ def why_not_run(path: str, trouble: Trouble) -> str:
     return sentence(trouble)
 
 
-def serve_words(folder: Folder, sessions: int) -> list[str]:
-    """The command that serves a series and keeps its journal. The socket's path may have 107 bytes, so it
-    is a bare name."""
+def serve_words(folder: Folder) -> list[str]:
+    """The command that serves a series and keeps its journal, until a line comes. The socket's path may have 107 bytes, so
+    it is a bare name."""
     return [os.path.abspath(folder.program), "serve", "--socket", "race.sock", "--keep", folder.journal,
-            "--clients", str(folder.settings.seats), "--sessions", str(sessions),
+            "--clients", str(folder.settings.seats), "--until-line",
             *folder.settings.options()]
 
 

@@ -89,7 +89,8 @@ where
 /// 44.3(c), A2.1, A3). `--journal` and `--entries` name files to start from. `--print` is the form
 /// of a replay's final part, and `--role` the role of a preview's first line. `--socket` is the path
 /// of the socket, `--clients` the number of seats, and `--sessions` the number of clients after which
-/// the door closes. `--keep` names the file that keeps the journal of a serving, or a kept file to
+/// the door closes, or with `--until-line` a line of the standard input closes it, which is read by a
+/// handle of its own and not by `input`. `--keep` names the file that keeps the journal of a serving, or a kept file to
 /// check.
 ///
 /// The status is 0 if everything was written, and a check found nothing wrong. It is 1 if a file, the

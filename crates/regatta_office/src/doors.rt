@@ -1,5 +1,5 @@
 //! The door of an office, and the line that may end it.
-ghost use Rattle.std.specs.Prelude.{◌≡◌, ◌×◌, ◌≢◌, ◌+◌, IfOk, IfSome, IsSome, IsTrue, OnOk, false, true};
+ghost use Rattle.std.specs.Prelude.{◌≡◌, IfOk};
 ghost use Rattle.regatta_service.specs.Doors.{streams_asked};
 
 use crate::complaint::Complaint;

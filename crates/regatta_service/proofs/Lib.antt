@@ -1,4 +1,5 @@
 mod Asking
+mod InputReads
 pub mod Lowest
 mod Points
 mod Replying

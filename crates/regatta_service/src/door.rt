@@ -1,5 +1,5 @@
 //! Where clients come from.
-ghost use Rattle.std.specs.Prelude.{◌≡◌, ◌≢◌, ◌+◌, ◌<◌, ◌×◌, ◌⊎◌, ℕ, Bool, true, false, Ok, Some, None};
+ghost use Rattle.std.specs.Prelude.{◌≡◌, ◌≢◌, ◌+◌, ◌<◌, ◌⊎◌, ℕ, Bool, true, false, Ok, Some, None};
 ghost use Rattle.std.specs.Prelude.{IfOk, IfSome, IsTrue, OnOk, OnErr, OnSome, length};
 ghost use Rattle.regatta_service.specs.Comings.{clients_in};
 ghost use Rattle.regatta_service.specs.Doors.{GivesNext, streams_asked, one_fewer};

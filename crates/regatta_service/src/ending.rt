@@ -2,7 +2,7 @@
 ghost use Rattle.std.specs.Prelude.{◌≡◌, ◌∷◌, true, is_some};
 ghost use Rattle.std.specs.List.{list_any};
 ghost use Rattle.regatta_terms.specs.TextLines.{is_line_end};
-ghost use Rattle.regatta_service.specs.Endings.{Hears, ends_line};
+ghost use Rattle.regatta_service.specs.Endings.{ReadsLine, brings_line};
 
 use crate::door::DoorFault;
 use crate::stopping::Stopping;
@@ -27,9 +27,9 @@ pub(crate) struct LineCame {
     ghost ends: { is_line_end end ≡ true },
 }
 
-/// What came of one read of the input.
+/// What one read of the input brought.
 #[derive(Drop)]
-enum Heard {
+enum Brought {
     /// A line ended.
     Line(LineCame),
     /// A part of a line came.
@@ -49,18 +49,18 @@ fn line_in(bytes: &[u8]) -> Option<LineCame>
 }
 
 /// Reads once.
-fn hear<S: Read>(input: &mut S, buffer: &mut [u8; PIECE]) -> Heard
-    ensures { Hears (S.remaining input.old) (S.remaining input.new) (ends_line result) }
+fn read_piece<S: Read>(input: &mut S, buffer: &mut [u8; PIECE]) -> Brought
+    ensures { ReadsLine (S.remaining input.old) (S.remaining input.new) (brings_line result) }
 {
     let Ok(count) = input.read(buffer) else {
-        return Heard::Nothing;
+        return Brought::Nothing;
     };
     if count == 0 {
-        return Heard::Nothing;
+        return Brought::Nothing;
     }
     match line_in(&buffer[..count]) {
-        Some(line) => Heard::Line(line),
-        None => Heard::Part,
+        Some(line) => Brought::Line(line),
+        None => Brought::Part,
     }
 }
 
@@ -93,14 +93,14 @@ impl Pause {
 /// Waits until a line has come. The mere end of the input ends nothing: more may come, so it is read
 /// again each second.
 fn wait_for_line<S: Read>(input: &mut S, pause: &mut Pause) -> Option<LineCame>
-    ensures { Hears (S.remaining input.old) (S.remaining input.new) (is_some result) }
+    ensures { ReadsLine (S.remaining input.old) (S.remaining input.new) (is_some result) }
 {
     let mut buffer = [0; PIECE];
     for _ in 0..u64::MAX {
-        match hear(input, &mut buffer) {
-            Heard::Line(line) => return Some(line),
-            Heard::Part => {}
-            Heard::Nothing => pause.wait(),
+        match read_piece(input, &mut buffer) {
+            Brought::Line(line) => return Some(line),
+            Brought::Part => {}
+            Brought::Nothing => pause.wait(),
         }
     }
     None

@@ -14,16 +14,20 @@ returns-clause-app c =
     let most : c.from.result ≡ MAX_SEATS = search rules in
     let socket = c.in_ok-arg.ensures.shape local in
     let clients = c.in_ok-arg-2.ensures.shape c.number_option-clients.ensures.local in
-    let sessions = c.in_ok-command.ensures.shape c.number_option-sessions.ensures.local in
-    with_one_more _ _ _ _ _ sessions
+    let sessions = c.in_ok-arg-3.ensures.shape c.number_option-sessions.ensures.local in
+    let line = c.in_ok-command.ensures.shape c.flag-until_line.ensures.local in
+    with_one_more _ _ _ _ _ line
+    (with_one_more _ _ _ _ _ sessions
     (with_one_more _ _ _ _ _ clients
     (with_one_more _ (app_of c.args.command) _ _ _ socket refl path)
     (c.number_option-clients.ensures.rule
     ∙ ap (number_option (codes "clients") (codes "4") 1) most))
-    c.number_option-sessions.ensures.rule
+    c.number_option-sessions.ensures.rule)
+    c.flag-until_line.ensures.rule
 
 pub returns-clause-local : goal.returns-clause-local
 returns-clause-local c =
-    stays_local _ _ _ c.in_ok-command.ensures.globals c.number_option-sessions.ensures.local
+    stays_local _ _ _ c.in_ok-command.ensures.globals c.flag-until_line.ensures.local
+    ∙ stays_local _ _ _ c.in_ok-arg-3.ensures.globals c.number_option-sessions.ensures.local
     ∙ stays_local _ _ _ c.in_ok-arg-2.ensures.globals c.number_option-clients.ensures.local
     ∙ stays_local _ _ _ c.in_ok-arg.ensures.globals (search rules)
