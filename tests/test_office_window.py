@@ -7,6 +7,7 @@ import os
 import select
 import shutil
 import signal
+import stat
 import subprocess
 import sys
 import threading
@@ -204,11 +205,51 @@ class Stopped(Windows):
         link.ask("FINISH 1 GBR101")
         window.process.kill()
         window.process.wait()
-        office_process.OfficeProcess(Folder(self.path())).use_up()
+        # It would end by itself ten seconds after it was told.
+        helpers.freeze(self.told().number)
         again = self.window("open", "cup")
         again.read(r"Take it over\? \[Y/n\] $")
         again.say("y", "The office is open")
         self.assertEqual(self.text("cup", "journal.txt").splitlines()[-1], "2 1 FINISH FINISH 1 GBR101")
+        again.press()
+        self.assertEqual(again.rest()[1], 0)
+
+    def test_ends_without_window(self) -> None:
+        """A program that was told to end does so by itself, also if somebody hangs on and its window was killed. Opening
+        it asks nothing then."""
+        window, link = self.open(), self.link()
+        link.ask("ROLE FINISH")
+        link.ask("FINISH 1 GBR101")
+        window.process.kill()
+        window.process.wait()
+        told = self.told()
+        helpers.until("its end", lambda: not told.is_program(told.number))
+        again = self.open()
+        self.assertEqual(self.text("cup", "journal.txt").splitlines()[-1], "2 1 FINISH FINISH 1 GBR101")
+        again.press()
+        self.assertEqual(again.rest()[1], 0)
+
+    def told(self) -> office_process.OfficeProcess:
+        """A program that was told to end, and lets nobody in any more."""
+        found = office_process.OfficeProcess(Folder(self.path()))
+        found.number = found.folder.noted_program()
+        found.let_nobody_in()
+        return found
+
+    def test_pipe(self) -> None:
+        """The pipe by which an office is closed is the account's alone. Its name may go: the program has it."""
+        window = self.open()
+        path = self.path("office", "end")
+        held = os.lstat(path)
+        self.assertEqual((stat.S_ISFIFO(held.st_mode), stat.S_IMODE(held.st_mode)), (True, 0o600))
+        os.remove(path)
+        window.press()
+        said, status = window.rest()
+        self.assertIn("Closed. ", said)
+        self.assertEqual((status, self.text("cup", "office", "table").split()[0]), (0, "TABLE"))
+        # The next opening makes it again, whatever is there.
+        self.write("close\n", "cup", "office", "end")
+        again = self.open()
         again.press()
         self.assertEqual(again.rest()[1], 0)
 

@@ -9,8 +9,7 @@ from unittest import mock
 import helpers
 from on_water import OnWater
 from raceoffice.errors import Gone, NotNow, Trouble
-from raceoffice.office import process
-from raceoffice.program.link import Link
+from raceoffice.office import ending
 from raceoffice.series.folder import Folder
 from raceoffice.web.kept_office import KeptOffice
 from raceoffice.web.taps import Tap
@@ -66,17 +65,14 @@ class Links(OnWater):
 
 class Shut(helpers.Series):
     def test_opened_anew(self) -> None:
-        """An office that has lent its last session serves on and lets nobody in: whoever opens it gets one that does."""
+        """An office that was told to end serves on for a while and lets nobody in: whoever opens it gets one that does."""
         folder = Folder(os.path.join(self.here, "cup"))
         folder.make_private()
         office = KeptOffice(folder, lambda _: None)
-        with mock.patch.object(process, "SESSIONS", folder.settings.seats + 2):
-            self.assertTrue(office.open(lambda _: True))
+        self.assertTrue(office.open(lambda _: True))
         self.addCleanup(self.stop, "cup")
         self.addCleanup(office.close)
-        for _ in range(folder.settings.seats + 2):
-            if office.is_there():
-                Link(folder.socket).close()
+        self.assertTrue(ending.is_told(folder.noted_program()))
         helpers.until("the shut door", lambda: not office.is_there())
         self.assertTrue(office.keeping)
         self.assertTrue(office.open(lambda _: True))

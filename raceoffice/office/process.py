@@ -10,8 +10,8 @@ from collections.abc import Callable
 
 from raceoffice import system
 from raceoffice.errors import Gone, Trouble
-from raceoffice.office import ending
 from raceoffice.files import PRIVATE, opened_as_ours, replace_whole, text_if_any
+from raceoffice.office import ending
 from raceoffice.program.link import Link, remove_socket
 from raceoffice.program.messages import cut_note, without_note
 from raceoffice.remarks import remark

@@ -100,7 +100,7 @@ class ResultsSource:
         return found
 
     def open_link(self) -> Link:
-        """The link to the office, kept while the office is open: each new one uses up a session."""
+        """The link to the office, kept while the office is open: each new one takes a seat."""
         if self.link is None:
             self.link = self.folder.link(PATIENCE)
             self.rules = rules_in_force(self.folder)

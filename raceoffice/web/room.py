@@ -312,7 +312,7 @@ class Room:
             raise Trouble(remark("line-unanswered"))
 
     def give_up(self, session: TapSession, lost: Lost) -> None:
-        """Leaves an office that doesn't answer, or has gone. Each link uses up one of its sessions."""
+        """Leaves an office that doesn't answer, or has gone. Each link takes one of its seats."""
         if session.unanswered and session.link and heard(session.link) is None:
             self.late.append(session.link)
             session.link = None
