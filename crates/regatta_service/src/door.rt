@@ -7,7 +7,7 @@ ghost use Rattle.regatta_service.specs.Doors.{ends_by_line, streams_in};
 
 use crate::connection::{Connection, connection_of, refuse};
 use crate::count::Count;
-use crate::ending::LineCame;
+use crate::line_came::LineCame;
 use crate::stopping::{Stopping, passes};
 use regatta_streams::{Device, Failures, Foreign, Sink, Source};
 use std::alloc::Global;

@@ -1,10 +1,9 @@
 //! The line that ends an office.
-ghost use Rattle.std.specs.Prelude.{◌≡◌, ◌∷◌, true, is_some};
-ghost use Rattle.std.specs.List.{list_any};
-ghost use Rattle.regatta_terms.specs.TextLines.{is_line_end};
+ghost use Rattle.std.specs.Prelude.{is_some};
 ghost use Rattle.regatta_service.specs.Endings.{ReadsLine, brings_line};
 
 use crate::door::DoorFault;
+use crate::line_came::{LineCame, line_in};
 use crate::stopping::Stopping;
 use std::io;
 use std::io::Read;
@@ -20,13 +19,6 @@ const LEAVE: u32 = 10;
 /// The most bytes that one read asks for.
 const PIECE: usize = 256;
 
-/// Shows that a line came: it has the byte that ended it. Only this file makes one.
-#[derive(Drop)]
-pub(crate) struct LineCame {
-    end: u8,
-    ghost ends: { is_line_end end ≡ true },
-}
-
 /// What one read of the input brought.
 #[derive(Drop)]
 enum Brought {
@@ -36,16 +28,6 @@ enum Brought {
     Part,
     /// The input has ended, for now or for good, or the read failed.
     Nothing,
-}
-
-/// Shows that a line ends in these bytes, if one does.
-fn line_in(bytes: &[u8]) -> Option<LineCame>
-    ensures { is_some result ≡ list_any is_line_end bytes.now }
-{
-    if bytes.contains(&b'\n') {
-        return Some(LineCame { end: b'\n' });
-    }
-    None
 }
 
 /// Reads once.

@@ -7,6 +7,7 @@ mod door;
 mod ending;
 mod gate;
 mod keeping;
+mod line_came;
 mod parting;
 mod pool;
 mod room;
