@@ -1,5 +1,5 @@
 -- Reads and writes after a wait.
-use Rattle.std.proofs.Common.{◌≡◌, ◌∙◌, ◌++◌, ℕ, List, Option, None, Some, Result, Ok, Err, ap, sym, take}
+use Rattle.std.proofs.Common.{◌∙◌, ◌++◌, ℕ, List, Option, None, Some, Result, Ok, Err, ap, sym, take}
 use Rattle.std.specs.Io.KnownBytes.{Appends, Consumes, Keeps, ReadConsumes, WriteAppends}
 use Rattle.regatta_streams.proofs.KnownBytes.{keeps-then}
 
