@@ -113,9 +113,7 @@ where
     let made = door_of(rt, alloc, options)?;
     let (mut door, stopping) = made;
     let gate = EndingGate::new(stopping);
-    let served = serve_and_print(
-        rt, alloc, &office, &mut door, passes, &gate, start, output,
-    );
+    let served = serve_and_print(rt, alloc, &office, &mut door, passes, &gate, start, output);
     let Served {
         back,
         admitted: _,

@@ -337,7 +337,11 @@ fn with_seats<'a>(alloc: Global, command: Command<'a>) -> Result<Command<'a>, Al
     let clients = number_option(alloc, "clients", "4", 1, u64::from(MAX_SEATS), CLIENTS);
     let sessions = number_option(alloc, "sessions", "0", 0, MOST_SESSIONS, SESSIONS);
     let until_line = flag(alloc, "until-line", UNTIL_LINE);
-    let command = command.arg(socket)?.arg(clients)?.arg(sessions)?.arg(until_line)?;
+    let command = command
+        .arg(socket)?
+        .arg(clients)?
+        .arg(sessions)?
+        .arg(until_line)?;
     Ok(command)
 }
 

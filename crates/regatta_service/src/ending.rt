@@ -5,13 +5,12 @@ ghost use Rattle.regatta_service.specs.Endings.{ReadsLine, brings_line};
 use crate::door::DoorFault;
 use crate::line_came::{LineCame, line_in};
 use crate::stopping::Stopping;
-use std::io;
 use std::io::Read;
 use std::net::Net;
 use std::os::unix::net::UnixStream;
-use std::thread;
 use std::thread::Threads;
 use std::time::Duration;
+use std::{io, thread};
 
 /// How long clients have to leave after the line, in seconds.
 const LEAVE: u32 = 10;

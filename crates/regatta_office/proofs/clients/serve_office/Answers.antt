@@ -11,8 +11,8 @@ returns-in_err-office-clause-printed g c = record {
   at_most = inl (keeps_same (g.W.Device.contents c.args.output.now));
 }
 
-pub returns-in_err-door-clause-printed : goal.returns-in_err-door-clause-printed
-returns-in_err-door-clause-printed g c = record {
+pub returns-in_err-made-clause-printed : goal.returns-in_err-made-clause-printed
+returns-in_err-made-clause-printed g c = record {
   table = search rules;
   at_most = inl (keeps_same (g.W.Device.contents c.args.output.now));
 }

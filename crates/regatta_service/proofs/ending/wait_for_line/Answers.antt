@@ -11,8 +11,8 @@ returns-in-Line g c =
 pub loop-preserved : goal.loop-preserved
 loop-preserved g c =
     elim c.match-read_piece.branch [
-      in-Part w ↦ reads_more _ _ _ _ false (ap brings_line w.in-Part.is) c.loop.invariant
+      | in-Part w ↦ reads_more _ _ _ _ false (ap brings_line w.in-Part.is) c.loop.invariant
           c.read_piece.ensures
-    | in-Nothing w ↦ reads_more _ _ _ _ false (ap brings_line w.in-Nothing.is) c.loop.invariant
+      | in-Nothing w ↦ reads_more _ _ _ _ false (ap brings_line w.in-Nothing.is) c.loop.invariant
           c.read_piece.ensures
     ]
