@@ -292,6 +292,11 @@ def command_line_of(number: int) -> list[bytes]:
     return []
 
 
+def input_of(number: int) -> str:
+    """The name of what a process reads as its standard input, whatever other name it has now."""
+    return f"/proc/{number}/fd/0"
+
+
 def works_in(number: int, folder: str) -> bool:
     """Whether a process has this folder for its own, by whatever path. The kernel says where it is: the folder of another
     office, which may hang, is asked only if it is of the same file system as this one."""

@@ -29,7 +29,7 @@ def is_told(number: int) -> bool:
     """Tells a program to end, by the pipe that it has, wherever its name is now; False if it has none, as one that an
     earlier version has started."""
     with contextlib.suppress(OSError), \
-            system.opened(f"/proc/{number}/fd/0", os.O_WRONLY | system.AT_ONCE) as pipe:
+            system.opened(system.input_of(number), os.O_WRONLY | system.AT_ONCE) as pipe:
         if stat.S_ISFIFO(os.fstat(pipe).st_mode):
             return os.write(pipe, LINE) == len(LINE)
     return False
