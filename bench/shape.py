@@ -37,8 +37,8 @@ service/connection: read write
 service/stopping: read_patiently read_once
 talk/cutter: take
 office/stopping_gate: before after
-terms/reading: read_line read_words read_command read_verb command_after_verb with_two read_race
-terms/words: first_words
+terms/reading: read_line read_words read_command finish two_words one_word read_race
+terms/words: first_word has_word
 terms/digits: number_within
 terms/numbers: new
 desk/office: desk
@@ -171,11 +171,11 @@ def decisions(function: Function) -> Counter[str]:
     found: Counter[str] = Counter()
     for pattern in patterns(function.body):
         about = next((name for name in DECIDED if re.search(rf"\b{name}::[A-Z]", pattern)), None)
-        if about is None and (re.search(r"\bVerb::", pattern) or re.match(r" *\[", pattern)):
+        if about is None and re.match(r" *\[", pattern):
             about = "words"
         if about is not None:
             found[about] += 1
-    if any("is_keyword(" in line for line in function.body):
+    if any(re.search(r"is_keyword\(|has_word\(", line) for line in function.body):
         found["words"] += 1
     return found
 

@@ -262,10 +262,12 @@ class Desks(WebTrial):
         self.need_no_faults()
 
     def test_links(self) -> None:
-        """A new link lets a device in by the language of its own, and one that is put out keeps its taps."""
+        """A new link lets a device in by the language of its own, and one that is put out keeps its taps. The page says that HTTP hides nothing."""
         ann, scorer = self.phone(), self.device("scorer", "Bea’s laptop")
         scorer.click("#tab-links")
         scorer.until("[...document.querySelectorAll('.devices th')].some(one => one.textContent === 'Ann’s phone')")
+        # The page says that it isn't encrypted, and what to do.
+        scorer.until("document.body.textContent.includes('Use a Wi-Fi of the club’s own, with a password.')")
         scorer.click("[data-role=JURY]")
         scorer.until("!!document.querySelector('.qr path')")
         link = scorer.text(".linktext")

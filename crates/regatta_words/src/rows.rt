@@ -1,7 +1,6 @@
 //! The rows of the document.
 
-ghost use Rattle.std.specs.Prelude.{◌≡◌, ◌≤◌, ◌<◌, ◌++◌, ◌+◌, take, length, vec_len};
-ghost use Rattle.std.specs.Prelude.{vec_capacity, OnOk, OnErr};
+ghost use Rattle.regatta_json.specs.Pushed.{Pushed};
 ghost use Rattle.regatta_words.specs.WordsText.{by_role, code_head, code_score, code_givers};
 ghost use Rattle.regatta_words.specs.WordsText.{role_row, form_row, numbered_row, refusal_row};
 ghost use Rattle.regatta_words.specs.WordsText.{fault_row};
@@ -22,11 +21,7 @@ use std::alloc::AllocError;
 /// Appends, for each role, whether something holds for it.
 #[tactic(auto, unfolding(crate::specs::WordsText::by_role))]
 fn push_by_role(finish: bool, jury: bool, scorer: bool, out: &mut Vec<u8>) -> Result<(), AllocError>
-    ensures ok { OnOk result (out.new.items ≡ out.old.items ++ by_role finish jury scorer) }
-    ensures err { OnErr result (take (vec_len out.old) out.new.items ≡ out.old.items) }
-    ensures room { vec_capacity out.old ≤ vec_capacity out.new }
-    ensures full { OnErr result (vec_capacity out.old
-        < vec_len out.old + length (by_role finish jury scorer)) }
+    ensures { Pushed (by_role finish jury scorer) out.old out.new result }
 {
     push_pieces(
         out,
@@ -45,11 +40,7 @@ fn push_by_role(finish: bool, jury: bool, scorer: bool, out: &mut Vec<u8>) -> Re
 /// Appends the first part of a code's row.
 #[tactic(auto, unfolding(crate::specs::WordsText::code_head))]
 fn push_code_head(code: Code, out: &mut Vec<u8>) -> Result<(), AllocError>
-    ensures ok { OnOk result (out.new.items ≡ out.old.items ++ code_head code) }
-    ensures err { OnErr result (take (vec_len out.old) out.new.items ≡ out.old.items) }
-    ensures room { vec_capacity out.old ≤ vec_capacity out.new }
-    ensures full { OnErr result (vec_capacity out.old
-        < vec_len out.old + length (code_head code)) }
+    ensures { Pushed (code_head code) out.old out.new result }
 {
     push_pieces(
         out,
@@ -73,11 +64,7 @@ fn push_code_head(code: Code, out: &mut Vec<u8>) -> Result<(), AllocError>
 /// Appends the code whose points a code has, and whether the score can be excluded.
 #[tactic(auto, unfolding(crate::specs::WordsText::code_score))]
 fn push_code_score(code: Code, out: &mut Vec<u8>) -> Result<(), AllocError>
-    ensures ok { OnOk result (out.new.items ≡ out.old.items ++ code_score code) }
-    ensures err { OnErr result (take (vec_len out.old) out.new.items ≡ out.old.items) }
-    ensures room { vec_capacity out.old ≤ vec_capacity out.new }
-    ensures full { OnErr result (vec_capacity out.old
-        < vec_len out.old + length (code_score code)) }
+    ensures { Pushed (code_score code) out.old out.new result }
 {
     push_pieces(
         out,
@@ -93,11 +80,7 @@ fn push_code_score(code: Code, out: &mut Vec<u8>) -> Result<(), AllocError>
 /// Appends who gives a code.
 #[tactic(auto, unfolding(crate::specs::WordsText::code_givers))]
 fn push_code_givers(code: Code, of: &Example, out: &mut Vec<u8>) -> Result<(), AllocError>
-    ensures ok { OnOk result (out.new.items ≡ out.old.items ++ code_givers code) }
-    ensures err { OnErr result (take (vec_len out.old) out.new.items ≡ out.old.items) }
-    ensures room { vec_capacity out.old ≤ vec_capacity out.new }
-    ensures full { OnErr result (vec_capacity out.old
-        < vec_len out.old + length (code_givers code)) }
+    ensures { Pushed (code_givers code) out.old out.new result }
 {
     let (finish, jury) = (gives(Role::Finish, code, of), gives(Role::Jury, code, of));
     let scorer = gives(Role::Scorer, code, of);
@@ -213,12 +196,7 @@ fn push_numbered(
     sentence: &[u8],
     out: &mut Vec<u8>,
 ) -> Result<(), AllocError>
-    ensures ok { OnOk result (out.new.items
-        ≡ out.old.items ++ numbered_row number name.now sentence.now) }
-    ensures err { OnErr result (take (vec_len out.old) out.new.items ≡ out.old.items) }
-    ensures room { vec_capacity out.old ≤ vec_capacity out.new }
-    ensures full { OnErr result (vec_capacity out.old
-        < vec_len out.old + length (numbered_row number name.now sentence.now)) }
+    ensures { Pushed (numbered_row number name.now sentence.now) out.old out.new result }
 {
     let mut digits = Buffer::new();
     push_pieces(

@@ -2,6 +2,7 @@
 
 ghost use Rattle.std.specs.Prelude.{◌≡◌, ◌≤◌, ◌<◌, ◌++◌, ◌+◌, take, length, vec_len};
 ghost use Rattle.std.specs.Prelude.{vec_capacity, OnOk, OnErr, IsOk, decimal};
+ghost use Rattle.regatta_json.specs.Pushed.{Pushed};
 ghost use Rattle.regatta_words.specs.WordsText.{marks_text, lines_text, answers_text};
 ghost use Rattle.regatta_words.specs.WordsText.{series_limits, other_limits};
 ghost use Rattle.regatta_words.specs.WordsText.{words_text};
@@ -38,10 +39,7 @@ pub fn write_words(out: &mut Vec<u8>) -> Result<(), AllocError>
 /// Appends the same text, but an `Err` leaves some first part of it.
 #[tactic(auto, unfolding(crate::specs::WordsText::words_text))]
 fn push_words(of: &Example, out: &mut Vec<u8>) -> Result<(), AllocError>
-    ensures ok { OnOk result (out.new.items ≡ out.old.items ++ words_text) }
-    ensures err { OnErr result (take (vec_len out.old) out.new.items ≡ out.old.items) }
-    ensures room { vec_capacity out.old ≤ vec_capacity out.new }
-    ensures full { OnErr result (vec_capacity out.old < vec_len out.old + length words_text) }
+    ensures { Pushed words_text out.old out.new result }
 {
     push_marks(of, out)?;
     push_lines(of, out)?;
@@ -69,10 +67,7 @@ fn push_marks(of: &Example, out: &mut Vec<u8>) -> Result<(), AllocError>
 /// Appends roles and forms of lines.
 #[tactic(auto, unfolding(crate::specs::WordsText::lines_text))]
 fn push_lines(of: &Example, out: &mut Vec<u8>) -> Result<(), AllocError>
-    ensures ok { OnOk result (out.new.items ≡ out.old.items ++ lines_text) }
-    ensures err { OnErr result (take (vec_len out.old) out.new.items ≡ out.old.items) }
-    ensures room { vec_capacity out.old ≤ vec_capacity out.new }
-    ensures full { OnErr result (vec_capacity out.old < vec_len out.old + length lines_text) }
+    ensures { Pushed lines_text out.old out.new result }
 {
     push_pieces(out, &[b"\n],\n\"roles\":[\n"])?;
     push_rows(&RoleRows, &ROLES, out)?;
@@ -98,11 +93,7 @@ fn push_answers(out: &mut Vec<u8>) -> Result<(), AllocError>
 
 /// Appends a limit after its name.
 fn push_limit(name: &[u8], limit: u32, out: &mut Vec<u8>) -> Result<(), AllocError>
-    ensures ok { OnOk result (out.new.items ≡ out.old.items ++ (name.now ++ decimal limit)) }
-    ensures err { OnErr result (take (vec_len out.old) out.new.items ≡ out.old.items) }
-    ensures room { vec_capacity out.old ≤ vec_capacity out.new }
-    ensures full { OnErr result (vec_capacity out.old
-        < vec_len out.old + length (name.now ++ decimal limit)) }
+    ensures { Pushed (name.now ++ decimal limit) out.old out.new result }
 {
     let mut digits = Buffer::new();
     push_pieces(out, &[name, digits.format(limit).as_bytes()])
@@ -111,10 +102,7 @@ fn push_limit(name: &[u8], limit: u32, out: &mut Vec<u8>) -> Result<(), AllocErr
 /// Appends the limits of a series.
 #[tactic(auto, unfolding(crate::specs::WordsText::series_limits))]
 fn push_series_limits(out: &mut Vec<u8>) -> Result<(), AllocError>
-    ensures ok { OnOk result (out.new.items ≡ out.old.items ++ series_limits) }
-    ensures err { OnErr result (take (vec_len out.old) out.new.items ≡ out.old.items) }
-    ensures room { vec_capacity out.old ≤ vec_capacity out.new }
-    ensures full { OnErr result (vec_capacity out.old < vec_len out.old + length series_limits) }
+    ensures { Pushed series_limits out.old out.new result }
 {
     push_limit(b"\n],\n\"limits\":{\"boats\":", MAX_BOATS as u32, out)?;
     push_limit(b",\"races\":", MAX_RACES as u32, out)?;
@@ -125,10 +113,7 @@ fn push_series_limits(out: &mut Vec<u8>) -> Result<(), AllocError>
 /// Appends the limits of penalties, lines and seats.
 #[tactic(auto, unfolding(crate::specs::WordsText::other_limits))]
 fn push_other_limits(out: &mut Vec<u8>) -> Result<(), AllocError>
-    ensures ok { OnOk result (out.new.items ≡ out.old.items ++ other_limits) }
-    ensures err { OnErr result (take (vec_len out.old) out.new.items ≡ out.old.items) }
-    ensures room { vec_capacity out.old ≤ vec_capacity out.new }
-    ensures full { OnErr result (vec_capacity out.old < vec_len out.old + length other_limits) }
+    ensures { Pushed other_limits out.old out.new result }
 {
     push_limit(b",\"penalties\":", MAX_PENALTIES as u32, out)?;
     push_limit(b",\"scp_points\":", MAX_SCP_POINTS as u32, out)?;

@@ -98,6 +98,7 @@ export function linksPage() {
   const heads = ["links.device", "links.role", "links.heard", "links.waiting"].map(key => element("th", {scope: "col"}, text(key)));
   return element("main", {class: "steps"},
     element("section", {class: "step"}, element("h2", {}, text("links.whoMayWrite")), element("p", {}, text("links.whatLinksAre")),
+      location.protocol === "https:" ? null : element("p", {class: "soft"}, text("links.plainHttp")),
       element("div", {class: "links"}, ROLES.map(role => roleStep(role, all.filter(one => one.role === role).length))), shownLink(),
       element("p", {}, text("links.boardForAll"), " ", element("a", {href: "/"}, known.devices?.board ?? "/"))),
     element("section", {class: "step"}, element("h2", {}, text("links.devicesTitle")),

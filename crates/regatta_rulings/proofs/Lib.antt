@@ -1,0 +1,9 @@
+pub mod ArgumentFacts
+pub mod AverageFacts
+pub mod LineFacts
+pub mod PointFacts
+pub mod PointWords
+pub mod Rounding
+pub mod RulingLines
+pub mod Stored
+pub mod WordFacts

@@ -1,0 +1,10 @@
+pub mod Averages
+pub mod DecisionLines
+pub mod DecisionWords
+pub mod RaceLists
+pub mod RulingLines
+pub mod RulingPoints
+pub mod Shares
+pub mod Undecided
+pub mod WorkedDecisions
+pub mod WorkedShares
