@@ -2,6 +2,7 @@
 
 ghost use Rattle.std.specs.Prelude.{◌≡◌, ◌≤◌, ◌<◌, ◌++◌, ◌+◌, take, length, vec_len};
 ghost use Rattle.std.specs.Prelude.{vec_capacity, IsOk, OnOk, OnErr};
+ghost use Rattle.regatta_json.specs.Pushed.{Pushed};
 ghost use Rattle.regatta_json.specs.Rows.{rows};
 ghost use Rattle.regatta_check.specs.Documents.{document_text, lines_text};
 ghost use Rattle.regatta_check.specs.Rows.{fault_row, row_fault_row};
@@ -75,10 +76,7 @@ impl ItemWriter<Fault> for Faults {
 
 /// Appends faults as rows.
 fn push_faults(items: &Items<Fault>, out: &mut Vec<u8>) -> Result<(), AllocError>
-    ensures ok { OnOk result (out.new.items ≡ out.old.items ++ rows fault_row items.now) }
-    ensures err { OnErr result (take (vec_len out.old) out.new.items ≡ out.old.items) }
-    ensures room { vec_capacity out.old ≤ vec_capacity out.new }
-    ensures full { OnErr result (vec_capacity out.old < vec_len out.old + length (rows fault_row items.now)) }
+    ensures { Pushed (rows fault_row items.now) out.old out.new result }
 {
     push_rows(&Faults, items.as_slice(), out)
 }
@@ -98,10 +96,7 @@ impl ItemWriter<RowFault> for RowFaults {
 
 /// Appends faults of rows of an entry list, as rows.
 fn push_row_faults(items: &Items<RowFault>, out: &mut Vec<u8>) -> Result<(), AllocError>
-    ensures ok { OnOk result (out.new.items ≡ out.old.items ++ rows row_fault_row items.now) }
-    ensures err { OnErr result (take (vec_len out.old) out.new.items ≡ out.old.items) }
-    ensures room { vec_capacity out.old ≤ vec_capacity out.new }
-    ensures full { OnErr result (vec_capacity out.old < vec_len out.old + length (rows row_fault_row items.now)) }
+    ensures { Pushed (rows row_fault_row items.now) out.old out.new result }
 {
     push_rows(&RowFaults, items.as_slice(), out)
 }

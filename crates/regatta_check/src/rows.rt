@@ -1,7 +1,6 @@
 //! The rows of a check.
 
-ghost use Rattle.std.specs.Prelude.{◌≡◌, ◌≤◌, ◌<◌, ◌++◌, ◌+◌, take, length, vec_len};
-ghost use Rattle.std.specs.Prelude.{vec_capacity, OnOk, OnErr};
+ghost use Rattle.regatta_json.specs.Pushed.{Pushed};
 ghost use Rattle.regatta_check.specs.Rows.{fault_row, kind_text, named_text, place_text, torn_text};
 ghost use Rattle.regatta_check.specs.Rows.{row_fault_row, row_kind_text, torn_value};
 
@@ -14,10 +13,7 @@ use std::alloc::AllocError;
 /// Appends where a line is.
 #[tactic(auto, unfolding(crate::specs::Rows::place_text))]
 fn push_place(place: &Place, out: &mut Vec<u8>) -> Result<(), AllocError>
-    ensures ok { OnOk result (out.new.items ≡ out.old.items ++ place_text place.now) }
-    ensures err { OnErr result (take (vec_len out.old) out.new.items ≡ out.old.items) }
-    ensures room { vec_capacity out.old ≤ vec_capacity out.new }
-    ensures full { OnErr result (vec_capacity out.old < vec_len out.old + length (place_text place.now)) }
+    ensures { Pushed (place_text place.now) out.old out.new result }
 {
     let mut line = Buffer::new();
     let mut at = Buffer::new();
@@ -38,11 +34,7 @@ fn push_place(place: &Place, out: &mut Vec<u8>) -> Result<(), AllocError>
 /// Appends a kind, with the number and the name of why.
 #[tactic(auto, unfolding(crate::specs::Rows::named_text))]
 fn push_named(kind: &[u8], number: u8, name: &[u8], out: &mut Vec<u8>) -> Result<(), AllocError>
-    ensures ok { OnOk result (out.new.items ≡ out.old.items ++ named_text kind.now number name.now) }
-    ensures err { OnErr result (take (vec_len out.old) out.new.items ≡ out.old.items) }
-    ensures room { vec_capacity out.old ≤ vec_capacity out.new }
-    ensures full { OnErr result
-        (vec_capacity out.old < vec_len out.old + length (named_text kind.now number name.now)) }
+    ensures { Pushed (named_text kind.now number name.now) out.old out.new result }
 {
     let mut digits = Buffer::new();
     push_pieces(
@@ -62,10 +54,7 @@ fn push_named(kind: &[u8], number: u8, name: &[u8], out: &mut Vec<u8>) -> Result
 /// Appends what is wrong with a line.
 #[tactic(auto, unfolding(crate::specs::Rows::kind_text))]
 fn push_kind(kind: &Kind, out: &mut Vec<u8>) -> Result<(), AllocError>
-    ensures ok { OnOk result (out.new.items ≡ out.old.items ++ kind_text kind.now) }
-    ensures err { OnErr result (take (vec_len out.old) out.new.items ≡ out.old.items) }
-    ensures room { vec_capacity out.old ≤ vec_capacity out.new }
-    ensures full { OnErr result (vec_capacity out.old < vec_len out.old + length (kind_text kind.now)) }
+    ensures { Pushed (kind_text kind.now) out.old out.new result }
 {
     match kind {
         Kind::BadVersion => push_pieces(out, &[b"\"fault\":\"BadVersion\""]),
@@ -78,10 +67,7 @@ fn push_kind(kind: &Kind, out: &mut Vec<u8>) -> Result<(), AllocError>
 /// Appends a line that something is wrong with.
 #[tactic(auto, unfolding(crate::specs::Rows::fault_row))]
 pub(crate) fn push_fault_row(fault: &Fault, out: &mut Vec<u8>) -> Result<(), AllocError>
-    ensures ok { OnOk result (out.new.items ≡ out.old.items ++ fault_row fault.now) }
-    ensures err { OnErr result (take (vec_len out.old) out.new.items ≡ out.old.items) }
-    ensures room { vec_capacity out.old ≤ vec_capacity out.new }
-    ensures full { OnErr result (vec_capacity out.old < vec_len out.old + length (fault_row fault.now)) }
+    ensures { Pushed (fault_row fault.now) out.old out.new result }
 {
     push_pieces(out, &[b"{"])?;
     push_place(&fault.place, out)?;
@@ -94,10 +80,7 @@ pub(crate) fn push_fault_row(fault: &Fault, out: &mut Vec<u8>) -> Result<(), All
 /// Appends the end of a kept file.
 #[tactic(auto, unfolding(crate::specs::Rows::torn_text))]
 fn push_torn(torn: &Torn, out: &mut Vec<u8>) -> Result<(), AllocError>
-    ensures ok { OnOk result (out.new.items ≡ out.old.items ++ torn_text torn.now) }
-    ensures err { OnErr result (take (vec_len out.old) out.new.items ≡ out.old.items) }
-    ensures room { vec_capacity out.old ≤ vec_capacity out.new }
-    ensures full { OnErr result (vec_capacity out.old < vec_len out.old + length (torn_text torn.now)) }
+    ensures { Pushed (torn_text torn.now) out.old out.new result }
 {
     let mut lines = Buffer::new();
     let mut at = Buffer::new();
@@ -121,10 +104,7 @@ fn push_torn(torn: &Torn, out: &mut Vec<u8>) -> Result<(), AllocError>
 /// Appends the end of a kept file, or null.
 #[tactic(auto, unfolding(crate::specs::Rows::torn_value))]
 pub(crate) fn push_torn_value(torn: &Option<Torn>, out: &mut Vec<u8>) -> Result<(), AllocError>
-    ensures ok { OnOk result (out.new.items ≡ out.old.items ++ torn_value torn.now) }
-    ensures err { OnErr result (take (vec_len out.old) out.new.items ≡ out.old.items) }
-    ensures room { vec_capacity out.old ≤ vec_capacity out.new }
-    ensures full { OnErr result (vec_capacity out.old < vec_len out.old + length (torn_value torn.now)) }
+    ensures { Pushed (torn_value torn.now) out.old out.new result }
 {
     match torn {
         Some(torn) => push_torn(torn, out),
@@ -135,10 +115,7 @@ pub(crate) fn push_torn_value(torn: &Option<Torn>, out: &mut Vec<u8>) -> Result<
 /// Appends what is wrong with a row of an entry list.
 #[tactic(auto, unfolding(crate::specs::Rows::row_kind_text))]
 fn push_row_kind(kind: &RowKind, out: &mut Vec<u8>) -> Result<(), AllocError>
-    ensures ok { OnOk result (out.new.items ≡ out.old.items ++ row_kind_text kind.now) }
-    ensures err { OnErr result (take (vec_len out.old) out.new.items ≡ out.old.items) }
-    ensures room { vec_capacity out.old ≤ vec_capacity out.new }
-    ensures full { OnErr result (vec_capacity out.old < vec_len out.old + length (row_kind_text kind.now)) }
+    ensures { Pushed (row_kind_text kind.now) out.old out.new result }
 {
     match kind {
         RowKind::NoColumn => push_pieces(out, &[b"\"fault\":\"NoColumn\""]),
@@ -153,10 +130,7 @@ fn push_row_kind(kind: &RowKind, out: &mut Vec<u8>) -> Result<(), AllocError>
 /// Appends a row of an entry list that something is wrong with.
 #[tactic(auto, unfolding(crate::specs::Rows::row_fault_row))]
 pub(crate) fn push_row_fault_row(fault: &RowFault, out: &mut Vec<u8>) -> Result<(), AllocError>
-    ensures ok { OnOk result (out.new.items ≡ out.old.items ++ row_fault_row fault.now) }
-    ensures err { OnErr result (take (vec_len out.old) out.new.items ≡ out.old.items) }
-    ensures room { vec_capacity out.old ≤ vec_capacity out.new }
-    ensures full { OnErr result (vec_capacity out.old < vec_len out.old + length (row_fault_row fault.now)) }
+    ensures { Pushed (row_fault_row fault.now) out.old out.new result }
 {
     let mut row = Buffer::new();
     push_pieces(out, &[b"{\"row\":", row.format(fault.row).as_bytes(), b","])?;

@@ -7,4 +7,5 @@ pub mod RulingPoints
 pub mod Shares
 pub mod Undecided
 pub mod WorkedDecisions
+pub mod WorkedPoints
 pub mod WorkedShares

@@ -7,7 +7,7 @@ ghost use Rattle.regatta_scores.specs.RaceScores.{no_score, scores_in};
 ghost use Rattle.regatta_scores.specs.Redressing.{IsRead};
 
 use crate::boats::{RaceScore, RaceScores};
-use crate::exclusions::{exclude_worst, net, none_of};
+use crate::exclusions::{exclude_worst, net, push_none};
 use crate::items::PerRace;
 use crate::ranking::BoatLine;
 use crate::redressed::{Counted, NO_RACES, push_points, put_averages};
@@ -114,9 +114,10 @@ pub fn boat_line(columns: &[RaceColumn<'_>], boat: usize, rules: &Rules) -> Boat
 {
     // The line is filled in place, since its lists would be copied into it.
     let mut line = BoatLine::empty();
-    line.excluded = none_of(columns.len());
+    push_none(&mut line.excluded, columns.len());
     let mut over_all = PerRace::new();
-    let mut dnes = none_of(columns.len());
+    let mut dnes = PerRace::new();
+    push_none(&mut dnes, columns.len());
     let all = push_scores(&mut line.points, &mut over_all, &mut dnes, columns, boat);
     put_averages(line.points.as_mut_slice(), &over_all, all);
     exclude_worst(&mut line.excluded, &line.points, &dnes, rules);

@@ -7,8 +7,8 @@ pub returns : goal.returns
 unfolding other_limits
 returns c = record {
   ok = five_parts _ _ _ _ _ _ _ _ _ _ _ c.in_ok-push_limit.ensures.ok
-    c.in_ok-push_limit-2.ensures.ok c.in_ok-push_limit-3.ensures.ok c.in_ok-push_limit-4.ensures.ok
-    c.in_ok-push_pieces.ensures.ok;
+      c.in_ok-push_limit-2.ensures.ok c.in_ok-push_limit-3.ensures.ok c.in_ok-push_limit-4.ensures.ok
+      c.in_ok-push_pieces.ensures.ok;
   err = search rules;
   room = search rules;
   full = search rules;

@@ -7,7 +7,7 @@ pub returns : goal.returns
 unfolding series_limits
 returns c = record {
   ok = three_parts _ _ _ _ _ _ _ c.in_ok-push_limit.ensures.ok
-    c.in_ok-push_limit-2.ensures.ok c.in_ok-push_limit-3.ensures.ok;
+      c.in_ok-push_limit-2.ensures.ok c.in_ok-push_limit-3.ensures.ok;
   err = search rules;
   room = search rules;
   full = search rules;
