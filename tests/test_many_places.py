@@ -40,7 +40,7 @@ class Taps(OnWater):
 
 
 class Meanwhile:
-    """A number that is looked at while orders are taken over: then somebody asks for the order of race 2."""
+    """A number that is read while orders are taken over: then somebody asks for the order of race 2."""
 
     def __init__(self, shared: History) -> None:
         self.shared = shared
