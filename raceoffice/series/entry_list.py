@@ -197,8 +197,8 @@ def fault_of_cells(table: Table, row: Sequence[str], at: int) -> Remark | None:
 def rows_in(table: Table, row: Sequence[str], place: int, at: int) -> int:
     """How many rows of boats there are if a cell with lines is the end of one row, whole rows, and the beginning of another."""
     first, *more = re.split("\r\n|\r|\n", row[place])
-    parts = [[*row[:place], *first.split(table.separator)], *(line.split(table.separator) for line in more)]
-    parts[-1] += row[place + 1:]
+    parts: list[list[str]] = [[*row[:place], *first.split(table.separator)], *(line.split(table.separator) for line in more)]
+    parts[-1].extend(row[place + 1:])
     # A column that isn't read may have anything, as an address.
     is_name = place in columns(table.heads, ENTRIES).values()
     return sum(is_of_boat(part, at, len(table.heads), is_name) for part in parts)
