@@ -22,7 +22,10 @@ GOOD = [b"Sail\nA\n", b"Boat,Sail\nX,gbr 7\n", b"\xef\xbb\xbfSail No\r\nA\r\nB\r
         b"Sail\n" + b"".join(b"B%d\n" % at for at in range(500)), b"Sail;Helm\nA;x\n", b"Helm\tSail\nx\tA\n",
         b'"Sail";"Helm"\n"A";"x;y"\n', b"Sail;\nA;\n", b"Sail No.\nA\n", b"Segelnummer\nA\n",
         "Sail\tHelm\nA\tJ\u00fcrgen\n".encode("utf-16"), "\ufeffSail,Helm\nA,x\n".encode("utf-16-be"),
-        "Sail\nA\n".encode("utf-32"), "Sail,Helm\n\u00a0,\u2003\nA,x\n".encode()]
+        "Sail\nA\n".encode("utf-32"), "Sail,Helm\n\u00a0,\u2003\nA,x\n".encode(),
+        # Two names on two lines, and an address: no row is in them.
+        b'Sail,Helm,Boat\nGBR 1,"Smith, Jo\nBrown, Al",Tern\nGBR 2,x,y\n', b'Helm;Boat;Sail\r\n"Ash; B\r\nOak; C";Tern;GBR 1\r\n',
+        b'Sail,Helm,Club\nGBR 1,x,"Royal YC,\nLymington"\n', b'Sail,Helm,Address\nGBR 1,x,"Mill House,\n12 High St, Cowes"\n']
 BAD = [
     (b"PK\x03\x04xx", 'a spreadsheet, not CSV. Save it as "Text CSV".'),
     (b"\xd0\xcf\x11\xe0xx", "a spreadsheet, not CSV."),
@@ -52,6 +55,9 @@ BAD = [
     (b'Sail,Helm,Boat\r\nA,"x,y\r\nB,"z,y\r\nC,x,y\r\n', "row 2: a quotation mark isn't closed where its cell ends"),
     (b'Sail;Helm;Notes\nA;x;"late\nB;y;\nC;z;\n', "row 2: a quotation mark isn't closed where its cell ends"),
     (b'Sail,Helm,Boat,Club\nA,"x,Kestrel,y\nB,z,19",y\n', "row 2 (x,Kestrel,y B,z,19): a quotation mark isn't closed"),
+    (b'Sail,Helm,Boat\nGBR 1,"x,Kestrel\nGBR 2,y,19"\n', "row 2 (x,Kestrel GBR 2,y,19): a quotation mark isn't closed"),
+    (b'Helm,Boat,Sail\n"x,Kestrel,A1\ny",19,B2\n', "row 2 (x,Kestrel,A1 y): a quotation mark isn't closed"),
+    (b'Sail,Helm,Notes\nA,x,"late\nB,y,\nC,z,"\n', "row 2 (x): a quotation mark isn't closed"),
     (b"Helm,Sail\nx\n", "row 2: it ends before the column of sails."),
     (b"Sail,Helm\n", "has headings, but no boats"),
     (b"Sail\n" + b"".join(b"B%d\n" % at for at in range(501)), "has 501 boats, and 500 fit"),

@@ -9,6 +9,7 @@ from unittest import mock
 
 import helpers
 from on_water import OnWater
+from raceoffice.series import kept_places
 from raceoffice.series.folder import Folder
 from raceoffice.series.kept_places import History, Note, Places
 from raceoffice.series.line_order import LineOrder
@@ -38,6 +39,17 @@ class Taps(OnWater):
         self.assertEqual(self.seen(1)[-2:], [[f"?{PLACES}"], [f"?{PLACES + 1}"]])
 
 
+class Meanwhile:
+    """A number that is read while orders are taken over: then somebody asks for the order of race 2."""
+
+    def __init__(self, shared: History) -> None:
+        self.shared = shared
+
+    def __index__(self) -> int:
+        self.shared.order(2)
+        return 4
+
+
 class AsFromTheBeginning(helpers.Series):
     """What is followed bit by bit is what is followed at once, whatever comes: lines, notes, older journals, boats of the
     same numbers."""
@@ -57,6 +69,16 @@ class AsFromTheBeginning(helpers.Series):
             for race in (1, 2):
                 self.assertEqual(found.order(race), whole.order(race))
                 self.assertEqual(found.moments(race), whole.moments(race))
+
+    def test_asked_meanwhile(self) -> None:
+        """A thread that reads what is new takes over orders while another, as of a class in which a finisher is kept, too, asks
+        for the order of one more race."""
+        journal = [f"ENTER {SAILS[0]}", f"FINISH 1 {SAILS[0]}"]
+        shared = self.places.read(journal)
+        shared.order(1)
+        with mock.patch.object(kept_places, "EARLIER", Meanwhile(shared)):
+            self.assertEqual(self.places.read([*journal, f"STRIKE 1 {SAILS[0]}"]).order(1).struck, {SAILS[0]})
+        self.assertIn(2, shared.followed)
 
     def test_at_random(self) -> None:
         for seed in range(60):

@@ -164,7 +164,7 @@ def faults_of(data: bytes, name: str) -> list[Remark]:
     for number, row in table.rows:
         if len(faults) >= FAULTS:
             return faults
-        if fault := fault_of_row(row, at, found) or fault_of_names(table, row, places):
+        if fault := fault_of_row(row, at, found) or fault_of_cells(table, row, at):
             helm = on_one_line(table.cell(row, who))
             faults.append(remark("list-row-of", name=name, row=number, helm=helm, fault=fault) if helm and len(row) > at
                           else remark("list-row", name=name, row=number, fault=fault))
@@ -187,12 +187,29 @@ def fault_of_row(row: list[str], at: int, found: dict[str, int]) -> Remark | Non
     return remark("row-twice", written=row[at].strip(), above=above) if above else None
 
 
-def fault_of_names(table: Table, row: Sequence[str], places: Mapping[str, int]) -> Remark | None:
-    """What is wrong with the names of a boat; None if nothing is. No name has several lines with what parts columns: a quotation
-    mark that isn't closed may be ended by that of another row."""
-    names = [table.cell(row, at) for at in places.values()]
-    has_rows = any(table.separator in name and re.search("[\r\n]", name) for name in names)
-    return remark("row-unclosed") if has_rows else None
+def fault_of_cells(table: Table, row: Sequence[str], at: int) -> Remark | None:
+    """What is wrong with the cells of a boat; None if nothing is. A quotation mark that isn't closed may be ended by that of
+    another row: then one cell holds rows. `at` is the column of the sails."""
+    lines = [place for place, cell in enumerate(row) if table.separator in cell and re.search("[\r\n]", cell)]
+    return remark("row-unclosed") if any(rows_in(table, row, place, at) > 1 for place in lines) else None
+
+
+def rows_in(table: Table, row: Sequence[str], place: int, at: int) -> int:
+    """How many rows of boats there are if a cell with lines is the end of one row, whole rows, and the beginning of another."""
+    first, *more = re.split("\r\n|\r|\n", row[place])
+    parts: list[list[str]] = [[*row[:place], *first.split(table.separator)], *(line.split(table.separator) for line in more)]
+    parts[-1].extend(row[place + 1:])
+    # A column that isn't read may have anything, as an address.
+    is_name = place in columns(table.heads, ENTRIES).values()
+    return sum(is_of_boat(part, at, len(table.heads), is_name) for part in parts)
+
+
+def is_of_boat(part: Sequence[str], at: int, width: int, is_name: bool) -> bool:
+    """Whether a part of a cell is a row of a boat, and not the second of two names as `Smith, Jo`, each on a line of its own."""
+    sail, is_whole = plain("".join(part[at:at + 1])), len(part) == width
+    if re.search("[0-9]", sail):
+        return bool(SAIL.fullmatch(sail)) and (is_name or is_whole)
+    return bool(SAIL.fullmatch(sail)) and is_whole and not any(cell.startswith(" ") for cell in part)
 
 
 def near(sail: str, boats: list[str]) -> list[str]:
