@@ -174,7 +174,7 @@ class Room:
 
     def races(self, facts: Facts) -> Values:
         """The races of which anything is recorded, with their sheets of times if the class has some."""
-        sheets = with_reasons(self.folder, sheets_shown(self.folder))
+        sheets = with_reasons(self.folder, sheets_shown(self.folder), facts.boats)
         noted = self.of_this_sailing(moments_noted(self.register, sheets))
         races = races_of(facts, self.history.waiting, self.moments(facts), noted, sheets)
         return {number: values | ({"sheet": sheets[int(number)]} if int(number) in sheets else {})
