@@ -367,7 +367,7 @@ class Late(OnWater):
             self.do("FINISH", "Ann", line, at=now, behind=None)
         lines = ["STRIKE 1 GBR7", "FINISH 1 GBR7"]
         self.assertEqual([self.correct(lines, agreed, now - 60_000, "FRA9") for _ in range(3)], ["finished-after", "after-since", "taken"])
-        self.assertEqual(agreed[1]["values"], {"race": 1, "sail": "GBR7", "others": ["NED12"]})
+        self.assertEqual(agreed[1]["values"], {"race": 1, "sail": "GBR7", "others": ["NED12"], "last": "?1"})
 
     def test_after_those_too(self) -> None:
         """A yes puts the boat after them, and is about just these."""
@@ -379,6 +379,20 @@ class Late(OnWater):
         self.do("FINISH", "Ann", "FINISH 1 IRL5", at=now, behind=None)
         self.assertEqual([self.correct(lines, agreed, now, "FRA9") for _ in range(2)], ["after-since", "taken"])
         self.assertEqual(self.seen(1), [["FRA9"], ["NED12"], ["IRL5"], ["GBR7"]])
+
+    def test_after_an_order_that_goes_on(self) -> None:
+        """The boat that was the last one has left the order: a yes to whether a boat is after all others is about those that there
+        are then. One who finishes before it comes is asked about."""
+        now, agreed = int(time.time() * 1000), list[Any]()
+        for sail in ("GBR7", "FRA9"):
+            self.do("FINISH", "Ann", f"FINISH 1 {sail}", at=now - 90_000, behind=None)
+        lines = ["STRIKE 1 GBR7", "FINISH 1 GBR7"]
+        self.assertEqual(self.correct(lines, agreed, now, "NED12"), "after-since")
+        self.assertEqual(agreed[0]["values"], {"race": 1, "sail": "GBR7", "others": [], "last": "FRA9"})
+        self.do("FINISH", "Ann", "FINISH 1 IRL5", at=now, behind=None)
+        self.assertEqual([self.correct(lines, agreed, now, "NED12") for _ in range(2)], ["after-since", "taken"])
+        self.assertEqual(agreed[1]["values"], {"race": 1, "sail": "GBR7", "others": [], "last": "IRL5"})
+        self.assertEqual(self.seen(1), [["FRA9"], ["IRL5"], ["GBR7"]])
 
     def test_given_meanwhile(self) -> None:
         """A code that takes the place of one that another device has given meanwhile is asked about, and so is what clears

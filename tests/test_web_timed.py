@@ -360,38 +360,6 @@ class Timed(Prepared):
             self.assertEqual(scorer.tap("TIMES 1")[1]["outcome"], "taken")
             self.assertEqual(sorted(self.journal()[len(before):]), lines)
 
-    def test_laps_that_are_missing(self) -> None:
-        """If a boat has no laps or no distance, and none above her in the sheet has, no time of the race is sent: the page says who,
-        and nothing once she has them: 3,600 s x 1000/500 and 3,900 s x 1000/400, 3,600 s - 500 x 0.5 and 3,900 s - 400 x 0.5. A
-        boat without a rating waits alone."""
-        self.write(ENTRIES.replace("TCF", "Rating").replace("1.000", "500").replace("0.900", "900").replace("1.250", "").replace("0.8", "400"),
-                   "cup", "entries.csv")
-        ann, scorer = self.device("finish"), self.device("scorer")
-
-        def why() -> list[Any]:
-            return [(one["kind"], one["values"]) for one in scorer.state()["races"]["1"]["sheet"]["why"]]
-        for system, key, given, lines in (("py", "Laps", "3", ["GBR101 7200", "FRA9 9750"]), ("tod", "Distance", "0.5", ["GBR101 3350", "FRA9 3700"])):
-            with self.subTest(system=system):
-                self.write(f"[times]\nsystem = {system}\nprogram = {helpers.TIMES}\n", "cup", "times", "rules.ini")
-                sheet = f"Sail,Start,Finish,Code,{key}\n{{}}GBR101,14:00:00,15:00:00,,{{}}\nFRA9,14:00:00,15:05:00,,{given}\n"
-                self.write(sheet.format("GBR7,14:00:00,,DNF,\nNED12,14:00:00,15:01:00,,\n", ""), "cup", "times", "race-1.csv")
-                held = self.journal()
-                said = scorer.tap("TIMES 1")[1]["said"]
-                self.assertEqual([one["what"] for one in said], ["sheet-waits"], said)
-                self.assertEqual(why(), [(f"{key.lower()}-missing", {"sail": "GBR101"})])
-                self.assertEqual(self.journal(), held)
-                self.write(sheet.format("", given), "cup", "times", "race-1.csv")
-                self.assertEqual(scorer.tap("TIMES 1")[1]["outcome"], "taken")
-                self.assertEqual(why(), [])
-                self.assertEqual(sorted(self.journal()[len(held):]), sorted(f"SCORER TIME 1 {line}" for line in lines))
-                for line in lines:
-                    ann.tap(f"STRIKE 1 {line.split()[0]}")
-        # No boat has laps: none needs any.
-        self.write(f"[times]\nsystem = py\nprogram = {helpers.TIMES}\n", "cup", "times", "rules.ini")
-        self.write("Sail,Start,Finish,Laps\nGBR101,14:00:00,15:00:00,\n", "cup", "times", "race-1.csv")
-        self.assertEqual(scorer.tap("TIMES 1")[1]["outcome"], "taken")
-        self.assertEqual(why(), [])
-
     def test_laps_of_a_boat_with_a_code(self) -> None:
         """What a boat with a code has as laps, nobody below her on the page comes to have by it, and the sheet can be read:
         3,900 s x 1000/800 and 4,200 s x 1000/900."""

@@ -48,11 +48,13 @@ def asked_of_last(session: TapSession, line: str, order: Race, passed: Collectio
     behind = session.tap.behind
     if command != "FINISH" or behind is None or order.is_in_order(sail):
         return
-    others = [name for group in groups_after(order, behind) for name in group]
-    if behind and not order.is_in_order(behind):
-        yield question("after-since", session.facts.called, race=order.number, sail=sail, others=())
-    elif others := [name for name in others if name not in passed and (not is_mark(name) or is_new_place(session, order.number, name))]:
-        yield question("after-since", session.facts.called, race=order.number, sail=sail, others=others)
+    after = [name for group in groups_after(order, behind) for name in group]
+    is_gone = bool(behind) and not order.is_in_order(behind)
+    new = (name for name in after if name not in passed and (not is_mark(name) or is_new_place(session, order.number, name)))
+    others = [] if is_gone else list(new)
+    if others or is_gone:
+        # A yes is about this end of the order: others may come before it is sent.
+        yield question("after-since", session.facts.called, race=order.number, sail=sail, others=others, last="".join(after[-1:]))
 
 
 def is_new_place(session: TapSession, race: int, mark: str) -> bool:

@@ -156,9 +156,8 @@ class Room:
             "version": self.version, "entries": len(facts.sheet.journal), "trouble": self.trouble,
             "handicap": settings.handicap, "zone": clock_shown(self.folder), "rules": settings.in_words(), "settings": rules_of(settings),
             "boats": boats_of(facts), "races": self.races(facts)}
-        if settings.handicap:
-            # What devices keep of these races from before then is of another sailing.
-            found["abandoned"] = {str(race): moment for race, moment in abandonments(self.folder).items()}
+        # What devices keep of these races from before then is of another sailing.
+        found["abandoned"] = {str(race): moment for race, moment in abandonments(self.folder).items()}
         if is_whole:
             labels = self.decisions.look(facts.sheet).labels
             found |= {"standing": standing_of(labelled(facts.standing, labels)), "last": self.last,
@@ -174,7 +173,7 @@ class Room:
 
     def races(self, facts: Facts) -> Values:
         """The races of which anything is recorded, with their sheets of times if the class has some."""
-        sheets = with_reasons(self.folder, sheets_shown(self.folder))
+        sheets = with_reasons(self.folder, sheets_shown(self.folder), facts.boats)
         noted = self.of_this_sailing(moments_noted(self.register, sheets))
         races = races_of(facts, self.history.waiting, self.moments(facts), noted, sheets)
         return {number: values | ({"sheet": sheets[int(number)]} if int(number) in sheets else {})

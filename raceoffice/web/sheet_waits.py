@@ -1,7 +1,7 @@
 """Why the times of boats are in the sheet of a race, and not in the journal yet."""
 from __future__ import annotations
 
-from collections.abc import Mapping
+from collections.abc import Collection, Mapping
 from typing import Any
 
 from raceoffice.corrected.ratings import faults_in_race
@@ -16,21 +16,22 @@ from raceoffice.series.read_list import bytes_of, name_of
 from raceoffice.web.states import Values, remarks_of
 
 
-def with_reasons(folder: Folder, sheets: Mapping[int, Values]) -> dict[int, Values]:
-    """The sheets of a class with what keeps all boats of each from being sent, `why`, and what keeps one, in her row."""
-    return {race: with_reason(sheet, *of_ratings(folder, race)) for race, sheet in sheets.items()}
+def with_reasons(folder: Folder, sheets: Mapping[int, Values], boats: Collection[str]) -> dict[int, Values]:
+    """The sheets of a class with what keeps all its `boats` of each from being sent, `why`, and what keeps one, in her row."""
+    return {race: with_reason(sheet, boats, *of_ratings(folder, race)) for race, sheet in sheets.items()}
 
 
 # What times of a system go by besides the ratings.
 COURSES = {"py": "laps", "tod": "distance"}
 
 
-def with_reason(sheet: Values, faults: list[Remark], alone: Mapping[str, Remark], system: str) -> Values:
+def with_reason(sheet: Values, boats: Collection[str], faults: list[Remark], alone: Mapping[str, Remark], system: str) -> Values:
     rows: Mapping[str, Any] = sheet["rows"] if isinstance(sheet["rows"], dict) else {}
     lacks: Mapping[str, list[str]] = sheet["lacks"] if isinstance(sheet["lacks"], dict) else {}
     shown = {sail: row | {"why": remarks_of(why_waiting(sail, row, alone))} for sail, row in rows.items()}
     kept = {key: value for key, value in sheet.items() if key != "lacks"}
-    course = of_course([sail for sail in lacks.get(COURSES.get(system, ""), []) if sail not in alone], system)
+    # The row of a boat that isn't entered is left out.
+    course = of_course([sail for sail in lacks.get(COURSES.get(system, ""), []) if sail in boats and sail not in alone], system)
     return kept | {"why": sheet["wrong"] or remarks_of([*faults, *course][:1]), "rows": shown}
 
 

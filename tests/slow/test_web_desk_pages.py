@@ -475,6 +475,30 @@ class TwoClasses(WebTrial):
         self.assertEqual(scorer.run(ticked), "")
         self.need_no_faults()
 
+    def test_ticks_of_another_sailing(self) -> None:
+        """While the scorer looks at another race, one is abandoned and sailed again: no boat of it is as on the paper, also if she has
+        the same code."""
+        desk = web_devices.Device(self.port, "scorer").come(self.links["scorer"], "Ada")
+        lines = ("FINISH 1 GBR33", "MARK 1 GBR7 DNF")
+        for line in (*lines, "FINISH 2 GBR101"):
+            desk.tap(line)
+        scorer = self.device("scorer", "Bea’s laptop")
+        scorer.click("#classes [data-key=cup]")
+        scorer.click(".races [data-key='1']")
+        scorer.until("document.querySelectorAll('.tick button').length === 2")
+        scorer.run("document.querySelectorAll('.tick button').forEach(one => one.click())")
+        scorer.until("document.querySelectorAll('.order tr.ticked').length === 2")
+        scorer.click(".races [data-key='2']")
+        scorer.until("!!document.querySelector('.order [data-sail=GBR101]')")
+        asked = desk.tap("ABANDON 1")[1]["question"]
+        self.assertEqual(desk.tap("ABANDON 1", agreed=[asked])[0], 200)
+        for line in lines:
+            self.assertEqual(desk.tap(line)[0], 200)
+        scorer.click(".races [data-key='1']")
+        scorer.until("document.querySelectorAll('.tick button').length === 2 && document.querySelector('.order').textContent.includes('DNF')")
+        self.assertEqual(scorer.run("document.querySelectorAll('.order tr.ticked').length"), 0)
+        self.need_no_faults()
+
     def test_sent_again(self) -> None:
         """The jury looks at another class while a decision waits for the network: it is sent about its own."""
         desk = web_devices.Device(self.port, "scorer").come(self.links["scorer"], "Ada")

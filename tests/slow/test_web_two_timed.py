@@ -2,6 +2,7 @@
 from __future__ import annotations
 
 import os
+import time
 import unittest
 
 import helpers
@@ -101,6 +102,47 @@ class TwoTimed(TimedTrial):
         scorer.click(".races [data-key='3']")
         scorer.click("#tab-times")
         scorer.until(is_shown.format("Folkboats", "Times sheet of race 3"))
+        self.need_no_faults()
+
+    def test_code_of_a_boat_that_finishes(self) -> None:
+        """While a window asks which code a boat has, another device taps her finish, which waits in the sheet for its start: a DNF is
+        asked about, on a phone, on the scorer's page and by hand, and nothing is sent after a No."""
+        ben = web_devices.Device(self.port, "finish").come(self.links["finish"], "Ben")
+        ann, bea = self.phone(), self.device("scorer", "Bea")
+        self.race(ann, "cup")
+        bea.click("#classes [data-key=cup]")
+        ann.click("#code")
+        ann.tap("GBR33", "cup")
+        bea.click(".missing [data-sail=GBR33]")
+        bea.choose("code")
+
+        def finished(sail: str) -> None:
+            # The moments of devices differ, and time passes until somebody chooses.
+            bea.another_second()
+            ben.tap(f"FINISH 1 {sail}", name="cup", at=int(time.time() * 1000))
+            bea.another_second()
+
+        def refuse(device: Device, sail: str, no: str) -> None:
+            device.until("document.querySelector('dialog[open]')?.textContent.includes("
+                         f"'Somebody else has sent FINISH 1 {sail} since. Send MARK 1 {sail} DNF all the same?')")
+            device.choose(no)
+            device.until(SHUT)
+        for device in (ann, bea):
+            device.until("!!document.querySelector('dialog[open] [data-value=DNF]')")
+        finished("GBR33")
+        for device, no in ((ann, "drop"), (bea, "")):
+            device.choose("DNF")
+            refuse(device, "GBR33", no)
+        bea.click("#tab-times")
+        bea.click("[data-hand=NED80]")
+        bea.until(ASKED)
+        finished("NED80")
+        bea.type("#hand-code", "DNF")
+        bea.choose("save")
+        refuse(bea, "NED80", "")
+        self.settle(ann)
+        self.assertEqual([row.split(",")[3] for row in self.text("cup", "times", "race-1.csv").splitlines()[1:]], ["", ""])
+        self.assertEqual(self.journal(), [])
         self.need_no_faults()
 
     def test_in_the_order_of_taps(self) -> None:

@@ -49,14 +49,14 @@ async function asked(row) {
 
 const wrongFinish = written => ({kind: "finish-wrong", text: written, values: {written: written.slice(0, 20)}});
 
-// Asks for the finish or the code of a boat, and sends what follows; whether anything was sent. Her row is as it was when the
-// journal had as many entries as were `seen`.
-export async function correctByHand(name, race, row, seen) {
+// Asks for the finish or the code of a boat, and sends what follows; whether anything was sent. Her row is as it was `at` a moment,
+// when the journal had as many entries as were `seen`. A code is asked about if others have recorded her finish since.
+export async function correctByHand(name, race, row, {seen, at}) {
   const given = await asked(row);
   if (!given) return false;
   const agreed = [];
   for (const line of linesFor(race, row, given)) {
-    const sent = await send(name, line, {agreed, seen});
+    const sent = await send(name, line, {agreed, seen, ...line.startsWith("MARK ") ? {at} : {}});
     if (!sent || sent.outcome === "refused") break;
     say(saidWords(sent.said).slice(0, 3).join("\n") || text("times.saved"));
   }

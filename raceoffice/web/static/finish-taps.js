@@ -2,6 +2,7 @@
 // What a tap does: a finisher, a place kept for a sail that wasn't read, a code, a strike, undo.
 import {element} from "./elements.js";
 import {text} from "./texts.js";
+import {moment} from "./office.js";
 import {choose, dialogOf, say} from "./dialogs.js";
 import {CODES, PENALTIES} from "./sails.js";
 import {heldBy, isIn, lastBoat} from "./race-view.js";
@@ -101,9 +102,10 @@ function undoSent(tap, item) {
   if (!isLeft) queue.drop(item);
 }
 
-// A code or a penalty for a boat
+// A code or a penalty for a boat. What others have recorded since the window was opened is asked about: a time that waits in its
+// sheet is no entry, so the office goes by when that was.
 export async function askCode(name, sail) {
-  const race = raceNow(name), held = heldBy(race, sail);
+  const race = raceNow(name), held = heldBy(race, sail), opened = moment();
   setMode({kind: "finish"});
   page.digits = "";
   page.redraw();
@@ -112,7 +114,7 @@ export async function askCode(name, sail) {
   const code = await choose(text("finish.whichCode", {sail: named(name, sail)}), box, [{value: "", label: text("common.cancel")}]);
   if (!code) return;
   buzz(35);
-  addTap(name, code === "CLEAR" ? `CLEAR # ${sail}` : `${PENALTIES.includes(code) ? "PENALTY" : "MARK"} # ${sail} ${code}`, {seen: race.seen});
+  addTap(name, code === "CLEAR" ? `CLEAR # ${sail}` : `${PENALTIES.includes(code) ? "PENALTY" : "MARK"} # ${sail} ${code}`, {seen: race.seen, ...opened});
 }
 
 function codeButton(code, words, label = code) {

@@ -65,24 +65,24 @@ export async function correct(name, number, sail) {
   const single = {strike: `STRIKE ${number} ${sail}`, clear: `CLEAR ${number} ${sail}`}[done];
   if (single) line(name, single, {seen});
   else if (done === "last") line(name, `FINISH ${number} ${sail}`, opened);
-  else if (done === "time") typeTime(name, race, number, sail, seen);
-  else if (done === "code") askCode(name, number, sail, seen);
+  else if (done === "time") typeTime(name, race, number, sail, opened);
+  else if (done === "code") askCode(name, number, sail, opened);
   else if (done === "ahead" || done === "level") insertAt(name, race, number, sail, done, opened);
   else if (done === "into") putInto(name, race, number, sail, opened);
   else if (done === "move") moveTo(name, race, number, sail, opened);
   else if (done === "swap") swapWith(name, race, number, sail);
 }
 
-async function askCode(name, number, sail, seen) {
+async function askCode(name, number, sail, {seen, at}) {
   const done = await choose(text("finish.whichCode", {sail: called(sail, name)}), [],
     [...[...CODES, ...PENALTIES].map(code => ({value: code, label: element("span", {}, code, element("small", {}, ` ${text(`code.${code}`)}`))})), cancel()]);
-  if (done) line(name, `${PENALTIES.includes(done) ? "PENALTY" : "MARK"} ${number} ${sail} ${done}`, {seen});
+  if (done) line(name, `${PENALTIES.includes(done) ? "PENALTY" : "MARK"} ${number} ${sail} ${done}`, {seen, at});
 }
 
 // A boat as the sheet of times has her; an elapsed time only if that was given
-function typeTime(name, race, number, sail, seen) {
+function typeTime(name, race, number, sail, opened) {
   const {finish = "", elapsed = "", code = ""} = race.sheet?.rows[sail] ?? {};
-  return correctByHand(name, number, {sail, finish, elapsed: finish ? "" : elapsed ?? "", code}, seen);
+  return correctByHand(name, number, {sail, finish, elapsed: finish ? "" : elapsed ?? "", code}, opened);
 }
 
 async function insertAt(name, race, number, sail, how, {seen, at}) {
@@ -122,7 +122,7 @@ export async function addFinisher(name, number) {
   const race = raceNumbered(name, number), opened = asOpened(name, race);
   if (state(name).handicap) {
     const finisher = await findBoat(name, text("scorer.addFinisher"), missingFrom(name, race).filter(sail => !hasFinished(race, sail)));
-    if (finisher) typeTime(name, race, number, finisher, opened.seen);
+    if (finisher) typeTime(name, race, number, finisher, opened);
     return;
   }
   const sail = await findBoat(name, text("scorer.whoFinishedLast"), missingFrom(name, race), text("scorer.elsewhereHint"));

@@ -3,7 +3,7 @@
 // code by hand; and what came of it.
 import {element} from "./elements.js";
 import {text} from "./texts.js";
-import {ask} from "./office.js";
+import {ask, now} from "./office.js";
 import {say} from "./dialogs.js";
 import {remarkSentences, troubleWords} from "./remark-words.js";
 import {saidWords} from "./said-words.js";
@@ -28,8 +28,8 @@ function duration(seconds) {
 
 // The sheet of one race in a form
 class Sheet {
-  constructor(name, found, again, seen) {
-    Object.assign(this, {name, found, again, seen, columns: found.columns});
+  constructor(name, found, again, opened) {
+    Object.assign(this, {name, found, again, opened, columns: found.columns});
     this.fields = new Map(found.rows.map(row => [row.sail, this.fieldsOf(row)]));
     this.forAll = this.columns.filter(key => key !== "elapsed");
     this.all = Object.fromEntries(this.forAll.map(key => [key, this.field(key, "", text("times.forTicked"))]));
@@ -71,7 +71,7 @@ class Sheet {
   // Her finish or her code, which a press corrects
   byHand(row) {
     return element("button", {type: "button", class: "quiet", "data-hand": row.sail, "aria-label": `${spaced(row.sail)}: ${text("times.byHand")}`,
-      onclick: async () => { if (await correctByHand(this.name, this.found.race, row, this.seen)) this.again(this); }}, row.code || row.finish || "–");
+      onclick: async () => { if (await correctByHand(this.name, this.found.race, row, this.opened)) this.again(this); }}, row.code || row.finish || "–");
   }
 
   corrected(sail) {
@@ -161,13 +161,13 @@ function raceField(name, again) {
 
 // Shows the sheet of a race: again with what was typed into it, if it is shown already. Gives it, or null.
 async function show(page, name, before = null) {
-  const asked = raceShown(name), seen = state(name)?.entries ?? 0, found = await ask(at(name, `/${asked}`)), again = sheet => show(page, name, sheet);
+  const asked = raceShown(name), opened = {seen: state(name)?.entries ?? 0, at: now()}, found = await ask(at(name, `/${asked}`)), again = sheet => show(page, name, sheet);
   // Somebody may have gone on to another race or class.
   if (asked !== raceShown(name) || !page.isConnected) return null;
   const wrong = found.status !== 200 ? troubleWords(found) : remarkSentences(found.wrong).join("\n");
   // What was typed isn't thrown away for that.
   if (wrong && before) return null;
-  shown = wrong ? null : new Sheet(name, found, again, seen);
+  shown = wrong ? null : new Sheet(name, found, again, opened);
   if (before) shown.takeOver(before);
   page.replaceChildren(raceField(name, () => again()), shown?.node ?? element("p", {class: "step wrong"}, wrong));
   return shown;
