@@ -111,7 +111,7 @@ KNOWN: dict[str, set[str]] = {
         "now.isoformat(timespec='seconds')", "sail", "seal", "stamp.changed", "stamp.every", "text", "wanted",
         "what", "wrong"},
     "verifier.py": {"' '.join(sorted(theirs)) or 'none'", "LARGEST", "PATIENCE", "at", "at + 1",
-        "called", "cause", "cause.start + 1", "cause.strerror", "name",
+        "called", "cause", "cause.start + 1", "cause.strerror", "name", "number",
         "characters.shortly(text, MESSAGE)", "escaped", "kept.race", "line", "more", "name_shown(path)", "named", "odd",
         "ours", "page", "place(table, at + 1, 0)", "program", "refusal('NO ' + start[1])", "seal_words(view)",
         "self.program", "sentence(why)", "view.settings.state", "view.when(view.changed)", "what", "why"},
