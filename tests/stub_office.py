@@ -61,7 +61,7 @@ def state(name: str, version: int) -> dict[str, Any]:
     open_race = race(7, codes={SAILS[7]: "OCS", SAILS[8]: "RET"}, penalties={SAILS[1]: ["ZFP"], SAILS[9]: ["SCP"]},
                      unread=[{"mark": "?1", "place": "5th", "after": 3}])
     return {"class": name, "title": "Autumn Cup", "group": "Dragon" if name == "cup" else "Folkboat", "version": version,
-            "entries": 60, "trouble": "", "handicap": name == "cruisers", "zone": [[0, 0]], "series": "", "rules": "Scores excluded: one from 4 races. RRS A5.2.",
+            "entries": 60, "trouble": "", "abandoned": {}, "handicap": name == "cruisers", "zone": [[0, 0]], "series": "", "rules": "Scores excluded: one from 4 races. RRS A5.2.",
             "boats": [[sail, boat[1], boat[2]] for sail, boat in zip(SAILS, BOATS)],
             "settings": {"exclude": "4", "absent": "a52", "scp": "", "handicap": False},
             "races": {"1": race(22, True, codes={SAILS[22]: "OCS"}), "2": open_race},

@@ -32,13 +32,10 @@ export function tapBoat(name, sail) {
   if (isBounce(`${name} ${sail}`)) return;
   if (page.mode.kind === "code") askCode(name, sail);
   else if (page.mode.kind === "round") flipRounded(name, sail);
-  else if (isIn(raceNow(name), sail)) refuseSecond(name, sail);
-  else finish(name, sail);
-}
-
-function refuseSecond(name, sail) {
-  buzz([20, 60, 20]);
-  say(text("finish.hasFinished", {sail: named(name, sail)}));
+  else if (isIn(raceNow(name), sail)) {
+    buzz([20, 60, 20]);
+    say(text("finish.hasFinished", {sail: named(name, sail)}));
+  } else finish(name, sail);
 }
 
 function finish(name, sail) {
